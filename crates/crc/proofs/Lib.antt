@@ -1,0 +1,4 @@
+pub mod Run
+pub mod Linear
+pub mod Tight
+mod Table

@@ -1,0 +1,4 @@
+pub mod Newline
+pub mod Writing
+pub mod ReadBack
+pub mod Tight
