@@ -1,0 +1,3 @@
+// What the bench computer's C program calls, with numbers and bytes: include/satvrengi.h is its header.
+pub mod frames;
+pub mod replies;

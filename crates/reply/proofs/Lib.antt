@@ -1,0 +1,10 @@
+pub mod Loops
+pub mod Lines
+pub mod Turns
+pub mod Rows
+pub mod Pass
+pub mod Whole
+pub mod Walk
+pub mod Tight
+pub mod Lend
+pub mod Examples

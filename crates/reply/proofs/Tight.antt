@@ -1,0 +1,97 @@
+-- No second answer fits a contract of this crate, and no second table. Assumes nothing.
+use mathlib.Core.Path.{_≡_, refl, sym, _∙_, ap, ap₂}
+use mathlib.Core.Bool.{cond}
+use mathlib.Core.List.{List}
+use Prim.Native.Nat.{ℕ}
+use native.Mathlib.Omega.{arith}
+use lib.Dec.{eqb}
+use lib.ListN.{length, getD}
+use Rattle.reply_line.specs.declared.Refusal.{Refusal}
+use Rattle.reply_line.specs.declared.Refusal.the-variants as Refusal
+use Rattle.reply_line.specs.Line.{numberOf}
+use Rattle.reply.specs.declared.Answer.{Answer}
+use Rattle.reply.specs.declared.Answer.the-variants as Answer
+use Rattle.reply.specs.declared.NextLine.{NextLine}
+use Rattle.reply.specs.declared.Row.{Row}
+use Rattle.reply.specs.Reply.{refusal, meaning, outcomeOf}
+use Rattle.reply.specs.declared.Table.{Table}
+use Rattle.reply.specs.Rows.{scriptRow, tableOf, Tabled, tableMeaning, readTable}
+use denote.Ref.{RefT}
+use Rattle.reply.specs.declared.LineReader.{LineReader}
+use Rattle.reply.specs.Code.{nextLine, placeAfter}
+
+-- the refusal that has a number
+named : ℕ → Refusal
+named n =
+    cond (eqb n 40) Refusal.BadPart
+    (cond (eqb n 41) Refusal.TooManyParts
+    (cond (eqb n 50) Refusal.NoEnding
+    (cond (eqb n 51) Refusal.UnknownLine
+    (cond (eqb n 52) Refusal.NoMate
+    (cond (eqb n 53) Refusal.NinthLoop
+    (cond (eqb n 54) Refusal.ShortTable Refusal.TooLong))))))
+
+named-back : (w : Refusal) → named (numberOf w) ≡ w
+unfolding named numberOf
+named-back Refusal.BadPart = refl
+named-back Refusal.TooManyParts = refl
+named-back Refusal.NoEnding = refl
+named-back Refusal.UnknownLine = refl
+named-back Refusal.NoMate = refl
+named-back Refusal.NinthLoop = refl
+named-back Refusal.ShortTable = refl
+named-back Refusal.TooLong = refl
+
+pub number-injective : (a b : Refusal) → numberOf a ≡ numberOf b → a ≡ b
+number-injective a b e = sym (named-back a) ∙ ap named e ∙ named-back b
+
+pub meaning-injective : (a b : Answer) → meaning a ≡ meaning b → a ≡ b
+unfolding meaning
+meaning-injective (Answer.Read c u r) (Answer.Read c′ u′ r′) e = cc
+meaning-injective (Answer.Read c u r) (Answer.Refused w k) e = absurd (none (let z : _≡_ {A = ℕ} 0 1 = cc in z))
+  where
+    none : _≡_ {A = ℕ} 0 1 → ⊥
+    none z = omega arith
+meaning-injective (Answer.Refused w k) (Answer.Read c u r) e = absurd (none (let z : _≡_ {A = ℕ} 0 1 = cc in z))
+  where
+    none : _≡_ {A = ℕ} 0 1 → ⊥
+    none z = omega arith
+meaning-injective (Answer.Refused w k) (Answer.Refused w′ k′) e =
+    let p : numberOf w ≡ numberOf w′ = cc in
+    let q : k ≡ k′ = cc in
+    ap₂ Answer.Refused (number-injective w w′ p) q
+
+pub only-next-line : (s : List ℕ) (at : ℕ) (a b : NextLine) → a ≡ nextLine s at → b ≡ nextLine s at → a ≡ b
+only-next-line s at a b p q = p ∙ sym q
+
+pub only-read-reply : (s : List ℕ) (ys : List Row) (a b : Answer) (left right : List Row)
+    → (meaning a ≡ outcomeOf (length ys) s) × (left ≡ tableOf s ys) → (meaning b ≡ outcomeOf (length ys) s) × (right ≡ tableOf s ys) → (a ≡ b) × (left ≡ right)
+only-read-reply s ys a b left right p q = (meaning-injective a b (p .0 ∙ sym (q .0)), p .1 ∙ sym (q .1))
+
+pub only-read-table : (s : List ℕ) (a b : Table) → tableMeaning a ≡ readTable s → tableMeaning b ≡ readTable s → a ≡ b
+unfolding tableMeaning
+only-read-table s a b p q =
+    let e : tableMeaning a ≡ tableMeaning b = p ∙ sym q in
+    let v : a .answer ≡ b .answer = meaning-injective (a .answer) (b .answer) (ap (λ (t : Tabled). t .outcome) e) in
+    let r : a .rows ≡ b .rows = ap (λ (t : Tabled). t .rows) e in
+    λ i. record { rows = r i; answer = v i }
+
+pub only-row-of : (t : Table) (at : ℕ) (a b : Row) → a ≡ getD (t .rows) at scriptRow → b ≡ getD (t .rows) at scriptRow → a ≡ b
+only-row-of t at a b p q = p ∙ sym q
+
+-- a reader is its reply and its place
+pub only-lines-of : (s : RefT (List ℕ)) (a b : LineReader) → (a .reply ≡ s) × (a .at ≡ 0) → (b .reply ≡ s) × (b .at ≡ 0) → a ≡ b
+only-lines-of s a b p q =
+    let r : a .reply ≡ b .reply = p .0 ∙ sym (q .0) in
+    let t : a .at ≡ b .at = p .1 ∙ sym (q .1) in
+    λ i. record { reply = r i; at = t i }
+
+-- the answer, and the reader afterwards
+pub only-line-reader-next : (h : LineReader) (l m : NextLine) (a b : LineReader)
+    → (l ≡ nextLine (h .reply .now) (h .at)) × ((a .reply ≡ h .reply) × (a .at ≡ placeAfter (nextLine (h .reply .now) (h .at)) (h .at)))
+    → (m ≡ nextLine (h .reply .now) (h .at)) × ((b .reply ≡ h .reply) × (b .at ≡ placeAfter (nextLine (h .reply .now) (h .at)) (h .at)))
+    → (l ≡ m) × (a ≡ b)
+only-line-reader-next h l m a b p q =
+    let r : a .reply ≡ b .reply = p .1 .0 ∙ sym (q .1 .0) in
+    let t : a .at ≡ b .at = p .1 .1 ∙ sym (q .1 .1) in
+    (p .0 ∙ sym (q .0), λ i. record { reply = r i; at = t i })

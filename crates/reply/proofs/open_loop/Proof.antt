@@ -1,0 +1,46 @@
+use mathlib.Core.Path.{_∙_}
+use borrow.Author.Tests.{lt-ltb, le-ltb}
+use borrow.Author.Needs.{needs}
+use Rattle.reply.proofs.open_loop.Statement.{statement}
+use Rattle.reply.proofs.open_loop.Tie as tie
+
+step-to-requires : tie.Need-step-to-requires
+step-to-requires c κs = search needs
+
+returns : tie.Need-returns
+returns c = c .step-to .ensures ∙ simp (le-ltb _ _ (c .before .if1 .taken))
+
+step-to-requires-2 : tie.Need-step-to-requires-2
+step-to-requires-2 c κs = search needs
+
+returns-2 : tie.Need-returns-2
+returns-2 c = c .step-to2 .ensures ∙ simp (lt-ltb _ _ (c .before .before .before .if1 .left), le-ltb _ _ (c .before .if2 .taken))
+
+array-set-from-loops : tie.Need-array-set-from-loops
+array-set-from-loops c = search needs
+
+add-t17 : tie.Need-add-t17
+add-t17 c = search needs
+
+add-t18 : tie.Need-add-t18
+add-t18 c = search needs
+
+step-to-requires-3 : tie.Need-step-to-requires-3
+step-to-requires-3 c κs = search needs
+
+returns-3 : tie.Need-returns-3
+returns-3 c = c .step-to3 .ensures ∙ simp (lt-ltb _ _ (c .before .before .before .before .if1 .left), lt-ltb _ _ (c .before .before .if2 .left))
+
+pub open-loop-spec : {M : Type 1} → statement M
+open-loop-spec =
+    tie.close
+    (tie.spec
+    step-to-requires
+    returns
+    step-to-requires-2
+    returns-2
+    array-set-from-loops
+    add-t17
+    add-t18
+    step-to-requires-3
+    returns-3)

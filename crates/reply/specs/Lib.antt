@@ -1,0 +1,4 @@
+pub mod Reply
+pub mod Rows
+pub mod Code
+pub mod Table

@@ -1,0 +1,130 @@
+-- 01, Packages and replies: the rows. "row 0 is the script, then one row a loop in opening order, with kind, code, parent row and packages
+-- directly inside". Assumes nothing.
+use mathlib.Core.List.{List, [], _∷_, _++_}
+use Prim.Native.Nat.{ℕ, _+_}
+use lib.ListN.{length, getD, set, drop, replicate}
+use Rattle.text.specs.Cut.{lines}
+use Rattle.reply_line.specs.declared.Kind.{Kind}
+use Rattle.reply_line.specs.declared.Kind.the-variants as Kind
+use Rattle.reply_line.specs.declared.Line.{Line}
+use Rattle.reply_line.specs.declared.Line.the-variants as Line
+use Rattle.reply_line.specs.Line.{lineAt}
+use Rattle.reply.specs.declared.Move.{Move}
+use Rattle.reply.specs.declared.Move.the-variants as Move
+use Rattle.reply.specs.declared.Row.{Row}
+use Rattle.reply.specs.declared.Answer.{Answer}
+use Rattle.reply.specs.declared.Answer.the-variants as Answer
+use Rattle.reply.specs.declared.Table.{Table}
+use Rattle.reply.specs.Reply.{Open, step, begun, verdict, Outcome, meaning, outcomeOf}
+
+-- the script's row, its own parent, "S and L have code 0000"
+abbrev pub scriptRow : Row
+scriptRow = record { kind = Kind.Script; mark = 0; parent = 0; packages = 0 }
+
+abbrev pub newRow : Kind → ℕ → ℕ → Row
+newRow k v up = record { kind = k; mark = v; parent = up; packages = 0 }
+
+abbrev pub raised : Row → Row
+raised r = record { kind = r .kind; mark = r .mark; parent = r .parent; packages = r .packages + 1 }
+
+-- what a line makes of the rows, inside row `at`: an opening mark appends one, whose parent that is, and a package counts in it
+unfoldable pub rowsAfter : Line → ℕ → List Row → List Row
+rowsAfter Line.Quiet at rows = rows
+rowsAfter Line.Empty at rows = rows
+rowsAfter Line.Package at rows = set rows at (raised (getD rows at scriptRow))
+rowsAfter (Line.Opens k v) at rows = rows ++ (newRow k v at ∷ [])
+rowsAfter (Line.Closes k) at rows = rows
+rowsAfter (Line.Error v) at rows = rows
+rowsAfter (Line.Refused r) at rows = rows
+
+-- inside which row it leads: an opening mark into its own, a closing mark back to the parent
+unfoldable pub insideAfter : Line → ℕ → List Row → ℕ
+insideAfter Line.Quiet at rows = at
+insideAfter Line.Empty at rows = at
+insideAfter Line.Package at rows = at
+insideAfter (Line.Opens k v) at rows = length rows
+insideAfter (Line.Closes k) at rows = getD rows at scriptRow .parent
+insideAfter (Line.Error v) at rows = at
+insideAfter (Line.Refused r) at rows = at
+
+-- up to the line that ends the reply
+abbrev pub whileOn : {X : Type 0} → Move → X → X → X
+whileOn Move.On more done = more
+whileOn (Move.Ends v) more done = done
+whileOn (Move.Refused r) more done = done
+
+unfoldable pub rowsFrom : ℕ → ℕ → Open → ℕ → List Row → List (List ℕ) → List Row
+unfolding rowsAfter insideAfter
+rowsFrom n k o at rows [] = rows
+rowsFrom n k o at rows (l ∷ ls) =
+    whileOn (step n (lineAt n k l) o .to)
+    (rowsFrom n (k + 1) (step n (lineAt n k l) o .state) (insideAfter (lineAt n k l) at rows) (rowsAfter (lineAt n k l) at rows) ls) rows
+
+-- the rows of a reply that is read: its first line makes the script's
+unfoldable pub rowsOf : ℕ → List ℕ → List Row
+unfolding rowsFrom
+rowsOf n s = rowsFrom n 1 begun 0 (scriptRow ∷ []) (lines s)
+
+-- ---- what becomes of the lent rows ys: "Rows past the last are unchanged"; refused, no row is changed
+
+unfoldable pub over : List Row → List Row → List Row
+over rows ys = rows ++ drop (length rows) ys
+
+unfoldable pub lentAfter : Answer → List Row → List Row → List Row
+unfolding over
+lentAfter (Answer.Read code used count) rows ys = over rows ys
+lentAfter (Answer.Refused why line) rows ys = ys
+
+unfoldable pub tableOf : List ℕ → List Row → List Row
+unfolding lentAfter verdict rowsOf
+tableOf s ys = lentAfter (verdict (length ys) s) (rowsOf (length ys) s) ys
+
+-- ---- a table of 1,024 rows by value: what it holds, and the answer
+
+pub record Tabled : Type 0 where
+  pub outcome : Outcome
+  pub rows : List Row
+
+unfoldable pub tableMeaning : Table → Tabled
+unfolding meaning
+tableMeaning t = record { outcome = meaning (t .answer); rows = t .rows }
+
+unfoldable pub readTable : List ℕ → Tabled
+unfolding outcomeOf tableOf
+readTable s = record { outcome = outcomeOf 1024 s; rows = tableOf s (replicate 1024 scriptRow) }
+
+-- ---- the lines that are read, up to the one that ends the reply, and how many are opening marks and packages
+
+unfoldable pub seenFrom : ℕ → ℕ → Open → List (List ℕ) → List Line
+seenFrom n k st [] = []
+seenFrom n k st (l ∷ ls) = whileOn (step n (lineAt n k l) st .to) (lineAt n k l ∷ seenFrom n (k + 1) (step n (lineAt n k l) st .state) ls) []
+
+unfoldable pub seenIn : ℕ → List ℕ → List Line
+unfolding seenFrom
+seenIn n s = seenFrom n 1 begun (lines s)
+
+unfoldable pub isOpening : Line → ℕ
+isOpening Line.Quiet = 0
+isOpening Line.Empty = 0
+isOpening Line.Package = 0
+isOpening (Line.Opens k v) = 1
+isOpening (Line.Closes k) = 0
+isOpening (Line.Error v) = 0
+isOpening (Line.Refused r) = 0
+
+unfoldable pub isPackage : Line → ℕ
+isPackage Line.Quiet = 0
+isPackage Line.Empty = 0
+isPackage Line.Package = 1
+isPackage (Line.Opens k v) = 0
+isPackage (Line.Closes k) = 0
+isPackage (Line.Error v) = 0
+isPackage (Line.Refused r) = 0
+
+unfoldable pub countBy : (Line → ℕ) → List Line → ℕ
+countBy f [] = 0
+countBy f (l ∷ ls) = f l + countBy f ls
+
+unfoldable pub packagesOf : List Row → ℕ
+packagesOf [] = 0
+packagesOf (r ∷ rs) = r .packages + packagesOf rs

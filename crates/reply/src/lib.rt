@@ -1,0 +1,498 @@
+// A reply: what its lines do, the verdict on the whole, the rows that the caller lends, and a reader of lines.
+ghost use mathlib.Core.Path.{_≡_};
+ghost use mathlib.Core.Bool.{true, false};
+ghost use Prim.Native.Nat.{_+_, _≤_, _<_};
+ghost use lib.ListN.{length, getD};
+ghost use Rattle.reply.specs.Reply.{closes, step, verdict, meaning, outcomeOf};
+ghost use Rattle.reply.specs.Rows.{scriptRow, tableOf, tableMeaning, readTable};
+ghost use Rattle.reply.specs.Code.{nextLine, placeAfter, meant, stepped, to, endIn, openIn, closeIn};
+ghost use Rattle.reply.specs.Table.{seenAt, placeBy, oneMore, raisedRow, change, changeBy, startIn, placeIn, turned};
+use reply_line::Kind;
+use reply_line::Line;
+use reply_line::Refusal;
+
+// The longest reply.
+const MOST_BYTES: usize = 65536;
+
+// The most open loops.
+const MOST_LOOPS: usize = 8;
+
+// An open loop, by its kind.
+pub struct Loop {
+    pub kind: Kind,
+}
+
+// The open loops, innermost last, and how many rows there are.
+pub struct State {
+    pub loops: [Loop; 8],
+    pub depth: usize,
+    pub rows: usize,
+}
+
+// Row 0 is the script, the others are loops.
+pub struct Row {
+    pub kind: Kind,
+    pub mark: u32,
+    pub parent: usize,
+    pub packages: usize,
+}
+
+// Where a line leads.
+enum Move {
+    On,
+    Ends(u32),
+    Refused(Refusal),
+}
+
+struct Step {
+    pub to: Move,
+    pub state: State,
+}
+
+// A refusal has its line, from 1; 0 where there is none.
+pub enum Answer {
+    Read { code: u32, used: usize, rows: usize },
+    Refused(Refusal, usize),
+}
+
+// The next line of a reply: where its bytes stand, and where the one after it starts.
+pub enum NextLine {
+    Text {
+        start: usize,
+        end: usize,
+        next: usize,
+    },
+    End,
+}
+
+// The line that starts at a place. Bytes after the last newline are no line.
+pub fn next_line(reply: &[u8], at: usize) -> NextLine
+    ensures { λ r. ⌜ r ≡ nextLine (now (reply .entry)) at ⌝ }
+{
+    let e = text::next_byte(reply, at, b'\n');
+    if e < reply.len() {
+        NextLine::Text {
+            start: at,
+            end: e,
+            next: e + 1,
+        }
+    } else {
+        NextLine::End
+    }
+}
+
+// Whether a mark closes the innermost open loop.
+fn closes_it(k: Kind, st: State) -> bool
+    requires { ⌜ st .depth ≤ 8 ⌝ }
+    ensures { λ r. ⌜ r ≡ closes k (meant st .loops) ⌝ }
+{
+    if st.depth == 0 {
+        return false;
+    }
+    let d = st.depth - 1;
+    let top = st.loops[d];
+    let kind = top.kind;
+    reply_line::letter(kind) == reply_line::letter(k)
+}
+
+// A step: where the line leads, and what is open then.
+fn step_to(lead: Move, st: State) -> Step
+    ensures { λ r. ⌜ r ≡ to lead st ⌝ }
+{
+    Step {
+        to: lead,
+        state: st,
+    }
+}
+
+// An empty line ends the reply where nothing is open.
+fn end_reply(st: State) -> Step
+    ensures { λ r. ⌜ r ≡ endIn st ⌝ }
+{
+    if 1 <= st.depth {
+        step_to(Move::Refused(Refusal::NoMate), st)
+    } else {
+        step_to(Move::Ends(0), st)
+    }
+}
+
+// An opening mark, with n rows to write.
+fn open_loop(k: Kind, st: State, n: usize) -> Step
+    ensures { λ r. ⌜ r ≡ openIn n k st ⌝ }
+{
+    if MOST_LOOPS <= st.depth {
+        return step_to(Move::Refused(Refusal::NinthLoop), st);
+    }
+    if n <= st.rows {
+        return step_to(Move::Refused(Refusal::ShortTable), st);
+    }
+    let d = st.depth;
+    let r = st.rows;
+    let mut loops = st.loops;
+    loops[d] = Loop { kind: k };
+    let inner = State {
+        loops: loops,
+        depth: d + 1,
+        rows: r + 1,
+    };
+    step_to(Move::On, inner)
+}
+
+// A closing mark.
+fn close_loop(k: Kind, st: State) -> Step
+    requires { ⌜ st .depth ≤ 8 ⌝ }
+    ensures { λ r. ⌜ r ≡ closeIn k st ⌝ }
+{
+    if closes_it(k, st) {
+        let loops = st.loops;
+        let outer = State {
+            loops: loops,
+            depth: st.depth - 1,
+            rows: st.rows,
+        };
+        step_to(Move::On, outer)
+    } else {
+        step_to(Move::Refused(Refusal::NoMate), st)
+    }
+}
+
+// What a line does, with n rows to write.
+fn step_of(line: Line, st: State, n: usize) -> Step
+    requires { ⌜ st .depth ≤ 8 ⌝ }
+    ensures { λ r. ⌜ (stepped r ≡ step n line (meant st)) × (r .state .depth ≤ 8) ⌝ }
+{
+    match line {
+        Line::Quiet => step_to(Move::On, st),
+        Line::Package => step_to(Move::On, st),
+        Line::Empty => end_reply(st),
+        Line::Opens(k, _) => open_loop(k, st, n),
+        Line::Closes(k) => close_loop(k, st),
+        Line::Error(v) => step_to(Move::Ends(v), st),
+        Line::Refused(r) => step_to(Move::Refused(r), st),
+    }
+}
+
+// The verdict on a whole reply, for a table of n rows. Nothing is written.
+fn judge(reply: &[u8], n: usize) -> Answer
+    ensures { λ r. ⌜ r ≡ verdict n (now (reply .entry)) ⌝ }
+{
+    if MOST_BYTES < reply.len() {
+        return Answer::Refused(Refusal::TooLong, 0);
+    }
+    let mut st = State {
+        loops: [Loop { kind: Kind::Script }; 8],
+        depth: 0,
+        rows: 1,
+    };
+    let mut at: usize = 0;
+    let mut k: usize = 1;
+    while at < reply.len() {
+        let NextLine::Text { start, end, next } = next_line(reply, at) else {
+            return Answer::Refused(Refusal::NoEnding, k);
+        };
+        let line = reply_line::line_at(&reply[start..end], k, n);
+        let step = step_of(line, st, n);
+        let to = step.to;
+        match to {
+            Move::On => {}
+            Move::Ends(v) => {
+                return Answer::Read {
+                    code: v,
+                    used: next,
+                    rows: st.rows,
+                };
+            }
+            Move::Refused(r) => {
+                return Answer::Refused(r, k);
+            }
+        }
+        let after = step.state;
+        st = after;
+        at = next;
+        k += 1;
+    }
+    Answer::Refused(Refusal::NoEnding, k)
+}
+
+// A line of a reply that is known to be good, and where the next one starts.
+pub struct Seen {
+    pub line: Line,
+    pub next: usize,
+}
+
+// Where the second pass stands: at a line, read already; where the last line ends; the row of the innermost open loop, and how many rows there are.
+pub struct Stand {
+    pub pos: usize,
+    pub end: usize,
+    pub line: Line,
+    pub next: usize,
+    pub inside: usize,
+    pub rows: usize,
+    pub answer: Answer,
+}
+
+// What a line makes of the row that it is about, and of the place among the rows.
+pub struct Change {
+    pub row: Row,
+    pub inside: usize,
+    pub rows: usize,
+}
+
+pub struct Turn {
+    pub row: Row,
+    pub next: Stand,
+}
+
+fn seen_at(reply: &[u8], pos: usize, end: usize) -> Seen
+    ensures { λ r. ⌜ r ≡ seenAt (now (reply .entry)) end pos ⌝ }
+{
+    match next_line(reply, pos) {
+        NextLine::Text { start, end, next } => {
+            let line = reply_line::known_line(&reply[start..end]);
+            Seen {
+                line: line,
+                next: next,
+            }
+        }
+        NextLine::End => Seen {
+            line: Line::Quiet,
+            next: end,
+        },
+    }
+}
+
+// Which row a line is about: an opening mark the next free one, any other the innermost.
+fn place_by(line: Line, inside: usize, rows: usize) -> usize
+    ensures { λ r. ⌜ r ≡ placeBy line inside rows ⌝ }
+{
+    match line {
+        Line::Opens(_, _) => rows,
+        Line::Quiet => inside,
+        Line::Empty => inside,
+        Line::Package => inside,
+        Line::Closes(_) => inside,
+        Line::Error(_) => inside,
+        Line::Refused(_) => inside,
+    }
+}
+
+// One more; no reply has so many rows or packages that this stands still.
+fn one_more(count: usize) -> usize
+    ensures { λ r. ⌜ r ≡ oneMore count ⌝ }
+{
+    if count < MOST_BYTES { count + 1 } else { count }
+}
+
+fn raised_row(old: Row) -> Row
+    ensures { λ r. ⌜ r ≡ raisedRow old ⌝ }
+{
+    let kind = old.kind;
+    let packages = one_more(old.packages);
+    Row {
+        kind: kind,
+        mark: old.mark,
+        parent: old.parent,
+        packages: packages,
+    }
+}
+
+fn changed(row: Row, inside: usize, rows: usize) -> Change
+    ensures { λ r. ⌜ r ≡ change row inside rows ⌝ }
+{
+    Change {
+        row: row,
+        inside: inside,
+        rows: rows,
+    }
+}
+
+fn change_by(line: Line, inside: usize, rows: usize, old: Row) -> Change
+    ensures { λ r. ⌜ r ≡ changeBy line inside rows old ⌝ }
+{
+    match line {
+        Line::Opens(k, v) => {
+            let more = one_more(rows);
+            let row = Row {
+                kind: k,
+                mark: v,
+                parent: inside,
+                packages: 0,
+            };
+            changed(row, rows, more)
+        }
+        Line::Closes(_) => changed(old, old.parent, rows),
+        Line::Package => {
+            let row = raised_row(old);
+            changed(row, inside, rows)
+        }
+        Line::Quiet => changed(old, inside, rows),
+        Line::Empty => changed(old, inside, rows),
+        Line::Error(_) => changed(old, inside, rows),
+        Line::Refused(_) => changed(old, inside, rows),
+    }
+}
+
+// The verdict, and where the second pass starts: the first line opens the script's row. A reply that is refused has nothing left to read.
+fn begin(reply: &[u8], n: usize) -> Stand
+    ensures { λ r. ⌜ r ≡ startIn (now (reply .entry)) n ⌝ }
+{
+    let answer = judge(reply, n);
+    match answer {
+        Answer::Read {
+            code: _,
+            used,
+            rows: _,
+        } => {
+            let seen = seen_at(reply, 0, used);
+            Stand {
+                pos: 0,
+                end: used,
+                line: Line::Opens(Kind::Script, 0),
+                next: seen.next,
+                inside: 0,
+                rows: 0,
+                answer: answer,
+            }
+        }
+        Answer::Refused(_, _) => Stand {
+            pos: 0,
+            end: 0,
+            line: Line::Quiet,
+            next: 0,
+            inside: 0,
+            rows: 0,
+            answer: answer,
+        },
+    }
+}
+
+// Which of n rows the line at a stand is about.
+fn place_in(st: Stand, n: usize) -> usize
+    ensures { λ r. ⌜ r ≡ placeIn st n ⌝ }
+{
+    let line = st.line;
+    let p = place_by(line, st.inside, st.rows);
+    if p < n { p } else { 0 }
+}
+
+// What that row is to be, and where the pass then stands.
+fn take_turn(reply: &[u8], st: Stand, old: Row) -> Turn
+    ensures { λ r. ⌜ r ≡ turned (now (reply .entry)) st old ⌝ }
+{
+    let line = st.line;
+    let answer = st.answer;
+    let change = change_by(line, st.inside, st.rows, old);
+    let row = change.row;
+    let seen = seen_at(reply, st.next, st.end);
+    let ahead = seen.line;
+    Turn {
+        row: row,
+        next: Stand {
+            pos: st.next,
+            end: st.end,
+            line: ahead,
+            next: seen.next,
+            inside: change.inside,
+            rows: change.rows,
+            answer: answer,
+        },
+    }
+}
+
+// The whole: the verdict first, by a pass that writes nothing; then one store a line.
+pub fn read_reply(reply: &[u8], rows: &mut [Row]) -> Answer
+    ensures { λ r. ⌜ (meaning r ≡ outcomeOf (length (now (rows .entry))) (now (reply .entry))) × (now (rows .exit) ≡ tableOf (now (reply .entry)) (now (rows .entry))) ⌝ }
+{
+    let n = rows.len();
+    let mut st = begin(reply, n);
+    while st.pos < st.end {
+        let at = place_in(st, n);
+        let old = rows[at];
+        let t = take_turn(reply, st, old);
+        rows[at] = t.row;
+        st = t.next;
+    }
+    st.answer
+}
+
+// What a table of 1,024 rows holds after a reply is read into it.
+pub struct Table {
+    pub rows: [Row; 1024],
+    pub answer: Answer,
+}
+
+// The same by value, for those who lend no table of their own.
+pub fn read_table(reply: &[u8]) -> Table
+    ensures { λ r. ⌜ tableMeaning r ≡ readTable (now (reply .entry)) ⌝ }
+{
+    let mut rows = [Row {
+        kind: Kind::Script,
+        mark: 0,
+        parent: 0,
+        packages: 0,
+    }; 1024];
+    let answer = read_reply(reply, &mut rows);
+    Table {
+        rows: rows,
+        answer: answer,
+    }
+}
+
+// A row of the table, or the script's where there is no such place.
+pub fn row_of(table: Table, at: usize) -> Row
+    ensures { λ r. ⌜ r ≡ getD (table .rows) at scriptRow ⌝ }
+{
+    if at < 1024 {
+        table.rows[at]
+    } else {
+        Row {
+            kind: Kind::Script,
+            mark: 0,
+            parent: 0,
+            packages: 0,
+        }
+    }
+}
+
+// A reader of lines: it stands over a lent reply, at the place where the next line starts.
+pub struct LineReader<'a> {
+    pub reply: &'a [u8],
+    pub at: usize,
+}
+
+// Where a reader stands after a line; with no line left, where it stood.
+fn place_after(line: NextLine, at: usize) -> usize
+    ensures { λ r. ⌜ r ≡ placeAfter line at ⌝ }
+{
+    match line {
+        NextLine::Text {
+            start: _,
+            end: _,
+            next,
+        } => next,
+        NextLine::End => at,
+    }
+}
+
+// A reader at the first line.
+pub fn lines_of<'a>(reply: &'a [u8]) -> LineReader<'a>
+    ensures { λ r. ⌜ (r .reply ≡ reply .entry) × (r .at ≡ 0) ⌝ }
+{
+    LineReader {
+        reply: reply,
+        at: 0,
+    }
+}
+
+impl<'a> LineReader<'a> {
+    // The line at the reader's place, which then is that of the one after it.
+    pub fn next<'s>(&'s mut self) -> NextLine
+        ensures { λ l. ⌜ (l ≡ nextLine (now (now (self .entry) .reply)) (now (self .entry) .at))
+            × ((now (self .exit) .reply ≡ now (self .entry) .reply) × (now (self .exit) .at ≡ placeAfter (nextLine (now (now (self .entry) .reply)) (now (self .entry) .at)) (now (self .entry) .at))) ⌝ }
+    {
+        let at = self.at;
+        let line = next_line(self.reply, at);
+        self.at = place_after(line, at);
+        line
+    }
+}

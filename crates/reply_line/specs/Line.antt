@@ -1,0 +1,117 @@
+-- 01, Packages and replies: what one line of a reply is, by itself. Assumes nothing.
+use mathlib.Core.Bool.{Bool, _&&_, _||_, cond}
+use mathlib.Core.List.{List}
+use Prim.Native.Nat.{ℕ}
+use lib.Dec.{leb, ltb, eqb}
+use lib.ListN.{length, getD}
+use Rattle.text.specs.Hex.{readHex}
+use Rattle.text.specs.declared.Hex.{Hex}
+use Rattle.text.specs.declared.Hex.the-variants as Hex
+use Rattle.package.specs.Package.{Verdict, verdictOf, packageOf}
+use Rattle.reply_line.specs.declared.Kind.{Kind}
+use Rattle.reply_line.specs.declared.Kind.the-variants as Kind
+use Rattle.reply_line.specs.declared.Refusal.{Refusal}
+use Rattle.reply_line.specs.declared.Refusal.the-variants as Refusal
+use Rattle.reply_line.specs.declared.Line.{Line}
+use Rattle.reply_line.specs.declared.Line.the-variants as Line
+
+-- ---- the table of numbers
+
+unfoldable pub numberOf : Refusal → ℕ
+numberOf Refusal.BadPart = 40
+numberOf Refusal.TooManyParts = 41
+numberOf Refusal.NoEnding = 50
+numberOf Refusal.UnknownLine = 51
+numberOf Refusal.NoMate = 52
+numberOf Refusal.NinthLoop = 53
+numberOf Refusal.ShortTable = 54
+numberOf Refusal.TooLong = 55
+
+-- the kinds of rows: S, M, L
+unfoldable pub letterOf : Kind → ℕ
+letterOf Kind.Script = 0x53
+letterOf Kind.Measuring = 0x4D
+letterOf Kind.Plain = 0x4C
+
+abbrev pub unknown : Line
+unknown = Line.Refused Refusal.UnknownLine
+
+-- ---- "an error line `e!hhhh`, not 0000, alone or followed by `: ` and anything"
+
+unfoldable pub nonZero : Hex → Hex
+nonZero (Hex.Number v) = cond (eqb v 0) Hex.Bad (Hex.Number v)
+nonZero Hex.Bad = Hex.Bad
+
+unfoldable pub endsError : List ℕ → Bool
+endsError s = leb (length s) 6 || (eqb (getD s 6 0) 0x3A && (leb 8 (length s) && eqb (getD s 7 0) 0x20))
+
+unfoldable pub errorCode : List ℕ → Hex
+unfolding nonZero endsError
+errorCode s =
+    cond (leb 6 (length s) && (eqb (getD s 0 0) 0x65 && (eqb (getD s 1 0) 0x21 && endsError s)))
+    (nonZero (readHex 4 s 2)) Hex.Bad
+
+-- ---- "A reply's first line is `e`, or an error line"; row 0 of the n rows belongs to it
+
+unfoldable pub withRow : ℕ → Line → Line
+withRow n l = cond (ltb 0 n) l (Line.Refused Refusal.ShortTable)
+
+unfoldable pub firstError : ℕ → Hex → Line
+unfolding withRow
+firstError n (Hex.Number v) = withRow n (Line.Error v)
+firstError n Hex.Bad = unknown
+
+unfoldable pub isE : List ℕ → Bool
+isE s = eqb (length s) 1 && eqb (getD s 0 0) 0x65
+
+unfoldable pub firstLine : ℕ → List ℕ → Line
+unfolding isE errorCode firstError
+firstLine n s = cond (isE s) (withRow n Line.Quiet) (firstError n (errorCode s))
+
+-- ---- "Later lines"
+
+-- a byte that stands alone
+unfoldable pub aloneIn : List ℕ → Line → Line
+aloneIn s l = cond (eqb (length s) 1) l unknown
+
+-- "`M` and four hex opens a measuring loop"
+unfoldable pub markOf : Hex → Line
+markOf (Hex.Number v) = Line.Opens Kind.Measuring v
+markOf Hex.Bad = unknown
+
+unfoldable pub markLine : List ℕ → Line
+unfolding markOf
+markLine s = cond (eqb (length s) 5) (markOf (readHex 4 s 1)) unknown
+
+-- a package, by its own verdict: 40 and 41 are given at the line
+unfoldable pub packageLine : Verdict → Line
+packageLine v = cond (eqb (v .number) 0) Line.Package (cond (eqb (v .number) 40) (Line.Refused Refusal.BadPart) (Line.Refused Refusal.TooManyParts))
+
+unfoldable pub laterError : Hex → Line
+laterError (Hex.Number v) = Line.Error v
+laterError Hex.Bad = unknown
+
+-- by the first byte; `pk` is what a package comes to
+unfoldable pub byFirst : Line → ℕ → List ℕ → Line
+unfolding aloneIn markLine laterError errorCode
+byFirst pk c s =
+    cond (eqb c 0x4D) (markLine s)
+    (cond (eqb c 0x2A) (aloneIn s (Line.Closes Kind.Measuring))
+    (cond (eqb c 0x4C) (aloneIn s (Line.Opens Kind.Plain 0))
+    (cond (eqb c 0x2B) (aloneIn s (Line.Closes Kind.Plain))
+    (cond (eqb c 0x50) pk
+    (cond (eqb c 0x54) Line.Quiet
+    (cond (eqb c 0x68) (aloneIn s Line.Quiet)
+    (cond (eqb c 0x48) (aloneIn s Line.Quiet)
+    (cond (eqb c 0x59) (aloneIn s Line.Quiet)
+    (cond (eqb c 0x5A) (aloneIn s Line.Quiet)
+    (cond (eqb c 0x65) (laterError (errorCode s)) unknown))))))))))
+
+unfoldable pub laterLine : List ℕ → Line
+unfolding byFirst packageLine
+laterLine s = cond (leb 1 (length s)) (byFirst (packageLine (verdictOf (packageOf s))) (getD s 0 0) s) Line.Empty
+
+-- line k, from 1, for a table of n rows
+unfoldable pub lineAt : ℕ → ℕ → List ℕ → Line
+unfolding firstLine laterLine
+lineAt n k s = cond (eqb k 1) (firstLine n s) (laterLine s)

@@ -1,0 +1,218 @@
+// What one line of a reply is, by itself.
+ghost use mathlib.Core.Path.{_≡_};
+ghost use mathlib.Core.Bool.{true};
+ghost use Rattle.reply_line.specs.Line.{numberOf, letterOf, endsError, errorCode, isE, firstLine, aloneIn, markLine, packageLine, laterError, lineAt};
+ghost use Rattle.reply_line.specs.Known.{laterBy};
+ghost use Rattle.package.specs.Package.{verdictOf, packageOf};
+use text::Hex;
+
+// The kinds of rows: the script, and the kinds of loops.
+pub enum Kind {
+    Script,
+    Measuring,
+    Plain,
+}
+
+pub enum Refusal {
+    BadPart,
+    TooManyParts,
+    NoEnding,
+    UnknownLine,
+    NoMate,
+    NinthLoop,
+    ShortTable,
+    TooLong,
+}
+
+pub enum Line {
+    // Text, a single letter, or the first line's `e`.
+    Quiet,
+    Empty,
+    Package,
+    Opens(Kind, u32),
+    Closes(Kind),
+    Error(u32),
+    Refused(Refusal),
+}
+
+pub fn number(why: Refusal) -> u16
+    ensures { λ r. ⌜ r ≡ numberOf why ⌝ }
+{
+    match why {
+        Refusal::BadPart => 40,
+        Refusal::TooManyParts => 41,
+        Refusal::NoEnding => 50,
+        Refusal::UnknownLine => 51,
+        Refusal::NoMate => 52,
+        Refusal::NinthLoop => 53,
+        Refusal::ShortTable => 54,
+        Refusal::TooLong => 55,
+    }
+}
+
+pub fn letter(kind: Kind) -> u8
+    ensures { λ r. ⌜ r ≡ letterOf kind ⌝ }
+{
+    match kind {
+        Kind::Script => b'S',
+        Kind::Measuring => b'M',
+        Kind::Plain => b'L',
+    }
+}
+
+// After the four digits of an error line: nothing, or a colon and a space.
+fn ends_error(s: &[u8]) -> bool
+    ensures { λ r. ⌜ r ≡ endsError (now (s .entry)) ⌝ }
+{
+    if s.len() <= 6 {
+        return true;
+    }
+    if s[6] != b':' {
+        return false;
+    }
+    if 8 <= s.len() { s[7] == b' ' } else { false }
+}
+
+fn error_code(s: &[u8]) -> Hex
+    ensures { λ r. ⌜ r ≡ errorCode (now (s .entry)) ⌝ }
+{
+    if 6 <= s.len() {
+        if s[0] != b'e' {
+            return Hex::Bad;
+        }
+        if s[1] != b'!' {
+            return Hex::Bad;
+        }
+        if !ends_error(s) {
+            return Hex::Bad;
+        }
+        match text::hex_at(s, 2, 4) {
+            Hex::Number(v) => { if v == 0 { Hex::Bad } else { Hex::Number(v) } }
+            Hex::Bad => Hex::Bad,
+        }
+    } else {
+        Hex::Bad
+    }
+}
+
+fn is_e(s: &[u8]) -> bool
+    ensures { λ r. ⌜ r ≡ isE (now (s .entry)) ⌝ }
+{
+    if s.len() == 1 { s[0] == b'e' } else { false }
+}
+
+// The first line, to which row 0 of the n rows belongs.
+fn first_line(s: &[u8], n: usize) -> Line
+    ensures { λ r. ⌜ r ≡ firstLine n (now (s .entry)) ⌝ }
+{
+    if is_e(s) {
+        if 0 < n {
+            return Line::Quiet;
+        }
+        return Line::Refused(Refusal::ShortTable);
+    }
+    match error_code(s) {
+        Hex::Number(v) => {
+            if 0 < n {
+                Line::Error(v)
+            } else {
+                Line::Refused(Refusal::ShortTable)
+            }
+        }
+        Hex::Bad => Line::Refused(Refusal::UnknownLine),
+    }
+}
+
+// What a single byte means, where nothing follows it.
+fn alone(s: &[u8], l: Line) -> Line
+    ensures { λ r. ⌜ r ≡ aloneIn (now (s .entry)) l ⌝ }
+{
+    if s.len() == 1 {
+        l
+    } else {
+        Line::Refused(Refusal::UnknownLine)
+    }
+}
+
+fn mark_line(s: &[u8]) -> Line
+    ensures { λ r. ⌜ r ≡ markLine (now (s .entry)) ⌝ }
+{
+    if s.len() == 5 {
+        match text::hex_at(s, 1, 4) {
+            Hex::Number(v) => Line::Opens(Kind::Measuring, v),
+            Hex::Bad => Line::Refused(Refusal::UnknownLine),
+        }
+    } else {
+        Line::Refused(Refusal::UnknownLine)
+    }
+}
+
+fn package_line(s: &[u8]) -> Line
+    ensures { λ r. ⌜ r ≡ packageLine (verdictOf (packageOf (now (s .entry)))) ⌝ }
+{
+    match package::judge_package(s) {
+        package::Answer::Read => Line::Package,
+        package::Answer::Refused(why, _) => match why {
+            package::Refusal::BadPart => Line::Refused(Refusal::BadPart),
+            package::Refusal::TooManyParts => Line::Refused(Refusal::TooManyParts),
+        },
+    }
+}
+
+fn error_line(s: &[u8]) -> Line
+    ensures { λ r. ⌜ r ≡ laterError (errorCode (now (s .entry))) ⌝ }
+{
+    match error_code(s) {
+        Hex::Number(v) => Line::Error(v),
+        Hex::Bad => Line::Refused(Refusal::UnknownLine),
+    }
+}
+
+// A line after the first. Where the reply is known to be good, its packages are not read again.
+fn later_line(s: &[u8], known: bool) -> Line
+    ensures { λ r. ⌜ r ≡ laterBy known (now (s .entry)) ⌝ }
+{
+    if 1 <= s.len() {
+        let c = s[0];
+        match c {
+            b'M' => mark_line(s),
+            b'*' => alone(s, Line::Closes(Kind::Measuring)),
+            b'L' => alone(s, Line::Opens(Kind::Plain, 0)),
+            b'+' => alone(s, Line::Closes(Kind::Plain)),
+            b'P' => {
+                if known {
+                    Line::Package
+                } else {
+                    package_line(s)
+                }
+            }
+            b'T' => Line::Quiet,
+            b'h' => alone(s, Line::Quiet),
+            b'H' => alone(s, Line::Quiet),
+            b'Y' => alone(s, Line::Quiet),
+            b'Z' => alone(s, Line::Quiet),
+            b'e' => error_line(s),
+            _ => Line::Refused(Refusal::UnknownLine),
+        }
+    } else {
+        Line::Empty
+    }
+}
+
+// Line k of a reply, from 1, for a table of n rows.
+pub fn line_at(s: &[u8], k: usize, n: usize) -> Line
+    ensures { λ r. ⌜ r ≡ lineAt n k (now (s .entry)) ⌝ }
+{
+    if k == 1 {
+        first_line(s, n)
+    } else {
+        later_line(s, false)
+    }
+}
+
+// A line after the first, of a reply that is known to be good.
+pub fn known_line(s: &[u8]) -> Line
+    ensures { λ r. ⌜ r ≡ laterBy true (now (s .entry)) ⌝ }
+{
+    later_line(s, true)
+}
