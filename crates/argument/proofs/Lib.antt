@@ -1,0 +1,4 @@
+pub mod Signs
+pub mod Past
+pub mod Refusals
+pub mod Tight

@@ -1,0 +1,45 @@
+use mathlib.Core.Path.{_≡_, refl}
+use mathlib.Core.Bool.{false}
+use mathlib.Core.List.{List, [], _∷_}
+use Prim.Native.Nat.{ℕ}
+use types.Run.{OneOf, miss}
+use denote.Enum.Declared.{tagOf}
+use Rattle.argument.specs.declared.Form.{Form}
+use Rattle.argument.specs.declared.Form.the-variants as F
+use Rattle.argument.specs.Argument.{isText}
+use Rattle.argument.proofs.Form.{the-type}
+use borrow.Author.Needs.{needs}
+use Rattle.argument.proofs.is_text.Statement.{statement}
+use Rattle.argument.proofs.is_text.Tie as tie
+use Rattle.argument.proofs.is_text.Reads as reads
+use Rattle.argument.proofs.is_text.Lts as lts
+
+-- the tags that `_` stands for
+abbrev others : List ℕ
+others = 0 ∷ 1 ∷ 2 ∷ 3 ∷ 4 ∷ 5 ∷ 6 ∷ 7 ∷ []
+
+rest : (form : Form) → OneOf others (tagOf the-type form) → false ≡ isText form
+rest F.Nothing k = refl
+rest F.New k = refl
+rest F.Name k = refl
+rest F.Operand k = refl
+rest F.Literal k = refl
+rest F.Letters k = refl
+rest F.Number k = refl
+rest F.Comparison k = refl
+rest F.Text k = absurd (miss others 8 tt k)
+
+-- src/lib.rt:297:23
+enum-told : tie.Need-enum-told
+enum-told c = search needs
+
+-- src/lib.rt:293:1
+returns : tie.Need-returns
+returns c = search needs
+
+-- src/lib.rt:293:1
+returns-2 : tie.Need-returns-2
+returns-2 c = rest (c .before .args .form) (c .match .keys2)
+
+pub is-text-spec : {M : Type 1} → statement M
+is-text-spec = tie.close (tie.spec enum-told returns returns-2)

@@ -1,0 +1,49 @@
+use mathlib.Core.Path.{_≡_, refl, sym, _∙_, ap}
+use mathlib.Core.List.{List, [], _∷_}
+use Prim.Native.Nat.{ℕ}
+use lib.IntN.{pos}
+use types.Run.{OneOf, miss}
+use denote.Enum.Declared.{tagOf}
+use Rattle.value.specs.declared.Value.the-variants.{Whole as whole}
+use Rattle.value.specs.declared.Comparison.the-variants.{Equal as equal}
+use Rattle.table.specs.declared.Operand.the-variants.{Literal as literal}
+use Rattle.table.specs.declared.Text.{Text}
+use Rattle.argument.specs.declared.Argument.{Argument}
+use Rattle.argument.specs.declared.Argument.the-variants as A
+use Rattle.argument.specs.Argument.{nameOf, operandOf, valueOf, lettersOf, smallOf, comparisonOf, textOf, wrongOf}
+use Rattle.argument.proofs.Argument.{the-type}
+use borrow.Author.Needs.{needs}
+use Rattle.argument.proofs.letters_of.Statement.{statement}
+use Rattle.argument.proofs.letters_of.Tie as tie
+use Rattle.argument.proofs.letters_of.Reads as reads
+use Rattle.argument.proofs.letters_of.Lts as lts
+
+-- the tags that `_` stands for
+abbrev others : List ℕ
+others = 0 ∷ 1 ∷ 2 ∷ 3 ∷ 5 ∷ 6 ∷ 7 ∷ 8 ∷ []
+
+rest : (x : Argument) → OneOf others (tagOf the-type x) → 0 ≡ lettersOf x
+rest A.Nothing k = refl
+rest (A.Name y) k = refl
+rest (A.Operand y) k = refl
+rest (A.Literal y) k = refl
+rest (A.Letters y) k = absurd (miss others 4 tt k)
+rest (A.Number y) k = refl
+rest (A.Comparison y) k = refl
+rest (A.Text y) k = refl
+rest (A.Wrong y) k = refl
+
+-- src/lib.rt:115:27
+enum-known-x : tie.Need-enum-known-x
+enum-known-x c = search needs
+
+-- src/lib.rt:111:1
+returns : tie.Need-returns
+returns c = search needs
+
+-- src/lib.rt:111:1
+returns-2 : tie.Need-returns-2
+returns-2 c = rest (c .before .args .x) (c .match .keys2)
+
+pub letters-of-spec : {M : Type 1} → statement M
+letters-of-spec = tie.close (tie.spec enum-known-x returns returns-2)

@@ -1,0 +1,37 @@
+use mathlib.Core.Path.{_≡_, refl, sym, _∙_, ap}
+use native.Mathlib.Omega.{arith}
+use lib.ListN.{length, drop, getD, List·getD-eq-default}
+use borrow.Author.Tests.{lt-ltb, lt-leb, le-leb, le-ltb, eq-eqb, ne-eqb, not-true, not-false}
+use Rattle.argument.specs.Refusal.{numberOf}
+use Rattle.argument.specs.Argument.{emptySaid, newSaid, nameSaid, literalSaid, operandSaid, typeSaid, numberSaid, signs, comparisonAt, comparisonSaid, said, isText, textAt, saidAt}
+use borrow.Author.Needs.{needs}
+use Rattle.argument.proofs.type_said.Statement.{statement}
+use Rattle.argument.proofs.type_said.Tie as tie
+use Rattle.argument.proofs.type_said.Reads as reads
+use Rattle.argument.proofs.type_said.Lts as lts
+use Rattle.word.proofs.read_type.Reads as read-type-reads
+
+-- src/lib.rt:229:11
+read-type-requires : tie.Need-read-type-requires
+read-type-requires c κs = search needs
+
+-- src/lib.rt:230:27
+enum-known-t : tie.Need-enum-known-t
+enum-known-t c = search needs
+
+-- src/lib.rt:231:42
+enum-told : tie.Need-enum-told
+enum-told c = search needs
+
+-- src/lib.rt:226:1
+returns : tie.Need-returns
+unfolding typeSaid
+returns c = simp (sym (c .before .before .before .read-type .ensures) ∙ c .before .t .given .1)
+
+-- src/lib.rt:226:1
+returns-2 : tie.Need-returns-2
+unfolding typeSaid
+returns-2 c = simp (sym (c .before .before .read-type .ensures) ∙ c .enum-told .given .1)
+
+pub type-said-spec : {M : Type 1} → statement M
+type-said-spec = tie.close (tie.spec read-type-requires enum-known-t enum-told returns returns-2)

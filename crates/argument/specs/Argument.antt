@@ -1,0 +1,236 @@
+-- 01, "Script text": what an argument's word says where a form is asked, and what is wrong with it.
+-- v is a name, x a name or literal, f a float x (its kind is judged later), t a type, n digits 0 to 255.
+use mathlib.Core.Bool.{Bool, true, false, cond}
+use mathlib.Core.List.{List, [], _∷_}
+use Prim.Native.Nat.{ℕ, _+_, _-_}
+use lib.Dec.{ltb, eqb}
+use lib.IntN.{pos}
+use lib.ListN.{length, drop, getD}
+use Rattle.text.specs.Cut.{before}
+use Rattle.value.specs.declared.Value.{Value}
+use Rattle.value.specs.declared.Value.the-variants.{Whole as whole}
+use Rattle.value.specs.declared.Comparison.{Comparison}
+use Rattle.value.specs.declared.Comparison.the-variants.{Equal as equal, Unequal as unequal, Less as less, AtMost as atMost, Greater as greater, AtLeast as atLeast}
+use Rattle.value.specs.declared.Literal.{Literal}
+use Rattle.value.specs.declared.Literal.the-variants.{Value as good, Bad as bad}
+use Rattle.value.specs.Literal.{literal as readLiteral}
+use Rattle.table.specs.declared.Operand.{Operand}
+use Rattle.table.specs.declared.Operand.the-variants.{Name as name, Literal as literal}
+use Rattle.table.specs.declared.Text.{Text}
+use Rattle.word.specs.declared.Class.the-variants.{Blank}
+use Rattle.word.specs.declared.Found.{Found}
+use Rattle.word.specs.declared.Found.the-variants.{At as at, Nothing as nowhere}
+use Rattle.word.specs.declared.TypeName.{TypeName}
+use Rattle.word.specs.declared.TypeName.the-variants.{Letters as letters, Bad as noType}
+use Rattle.word.specs.declared.Small.{Small}
+use Rattle.word.specs.declared.Small.the-variants.{Number as number, Bad as noNumber}
+use Rattle.word.specs.Word.{run, wordAt, part, nameForm, readType, smallOf as readNumber, ascii, padded, seek}
+use Rattle.argument.specs.Refusal.{Refusal, numberOf, badArguments, undeclared, declaredTwice, tooManyNames}
+pub use Rattle.argument.specs.declared.Form.{Form}
+pub use Rattle.argument.specs.declared.Form.the-variants as F
+pub use Rattle.argument.specs.declared.Argument.{Argument}
+pub use Rattle.argument.specs.declared.Argument.the-variants as A
+pub use Rattle.argument.specs.declared.Said.{Said}
+
+-- ---- what an argument says, where it says something of the sort, and otherwise nothing of meaning
+
+abbrev pub nameOf : Argument → ℕ
+nameOf A.Nothing = 0
+nameOf (A.Name y) = y
+nameOf (A.Operand y) = 0
+nameOf (A.Literal y) = 0
+nameOf (A.Letters y) = 0
+nameOf (A.Number y) = 0
+nameOf (A.Comparison y) = 0
+nameOf (A.Text y) = 0
+nameOf (A.Wrong y) = 0
+
+abbrev pub operandOf : Argument → Operand
+operandOf A.Nothing = literal (whole (pos 0))
+operandOf (A.Name y) = literal (whole (pos 0))
+operandOf (A.Operand y) = y
+operandOf (A.Literal y) = literal (whole (pos 0))
+operandOf (A.Letters y) = literal (whole (pos 0))
+operandOf (A.Number y) = literal (whole (pos 0))
+operandOf (A.Comparison y) = literal (whole (pos 0))
+operandOf (A.Text y) = literal (whole (pos 0))
+operandOf (A.Wrong y) = literal (whole (pos 0))
+
+abbrev pub valueOf : Argument → Value
+valueOf A.Nothing = whole (pos 0)
+valueOf (A.Name y) = whole (pos 0)
+valueOf (A.Operand y) = whole (pos 0)
+valueOf (A.Literal y) = y
+valueOf (A.Letters y) = whole (pos 0)
+valueOf (A.Number y) = whole (pos 0)
+valueOf (A.Comparison y) = whole (pos 0)
+valueOf (A.Text y) = whole (pos 0)
+valueOf (A.Wrong y) = whole (pos 0)
+
+abbrev pub lettersOf : Argument → ℕ
+lettersOf A.Nothing = 0
+lettersOf (A.Name y) = 0
+lettersOf (A.Operand y) = 0
+lettersOf (A.Literal y) = 0
+lettersOf (A.Letters y) = y
+lettersOf (A.Number y) = 0
+lettersOf (A.Comparison y) = 0
+lettersOf (A.Text y) = 0
+lettersOf (A.Wrong y) = 0
+
+abbrev pub smallOf : Argument → ℕ
+smallOf A.Nothing = 0
+smallOf (A.Name y) = 0
+smallOf (A.Operand y) = 0
+smallOf (A.Literal y) = 0
+smallOf (A.Letters y) = 0
+smallOf (A.Number y) = y
+smallOf (A.Comparison y) = 0
+smallOf (A.Text y) = 0
+smallOf (A.Wrong y) = 0
+
+abbrev pub comparisonOf : Argument → Comparison
+comparisonOf A.Nothing = equal
+comparisonOf (A.Name y) = equal
+comparisonOf (A.Operand y) = equal
+comparisonOf (A.Literal y) = equal
+comparisonOf (A.Letters y) = equal
+comparisonOf (A.Number y) = equal
+comparisonOf (A.Comparison y) = y
+comparisonOf (A.Text y) = equal
+comparisonOf (A.Wrong y) = equal
+
+abbrev pub textOf : Argument → Text
+textOf A.Nothing = record { start = 0; end = 0 }
+textOf (A.Name y) = record { start = 0; end = 0 }
+textOf (A.Operand y) = record { start = 0; end = 0 }
+textOf (A.Literal y) = record { start = 0; end = 0 }
+textOf (A.Letters y) = record { start = 0; end = 0 }
+textOf (A.Number y) = record { start = 0; end = 0 }
+textOf (A.Comparison y) = record { start = 0; end = 0 }
+textOf (A.Text y) = y
+textOf (A.Wrong y) = record { start = 0; end = 0 }
+
+-- the number of what is wrong; 19, above all numbers of form, where nothing is
+abbrev pub wrongOf : Argument → ℕ
+wrongOf A.Nothing = 19
+wrongOf (A.Name y) = 19
+wrongOf (A.Operand y) = 19
+wrongOf (A.Literal y) = 19
+wrongOf (A.Letters y) = 19
+wrongOf (A.Number y) = 19
+wrongOf (A.Comparison y) = 19
+wrongOf (A.Text y) = 19
+wrongOf (A.Wrong y) = numberOf y
+
+-- ---- what a word says where a form is asked; a missing word is an empty one
+
+unfoldable pub emptySaid : List ℕ → Argument
+emptySaid w = cond (eqb (length w) 0) A.Nothing (A.Wrong badArguments)
+
+abbrev pub known : Found → Argument
+known (at i) = A.Name i
+known nowhere = A.Wrong undeclared
+
+-- a name that was declared on an earlier line
+unfoldable pub nameSaid : List (List ℕ) → List ℕ → Argument
+nameSaid names w = cond (nameForm w) (known (seek names w)) (A.Wrong badArguments)
+
+abbrev pub fresh : ℕ → Found → Argument
+fresh n (at i) = A.Wrong declaredTwice
+fresh n nowhere = cond (ltb n 32) (A.Name n) (A.Wrong tooManyNames)
+
+-- a name that is new, with its number
+unfoldable pub newSaid : List (List ℕ) → List ℕ → Argument
+newSaid names w = cond (nameForm w) (fresh (length names) (seek names w)) (A.Wrong badArguments)
+
+abbrev pub valuedBy : Literal → Argument
+valuedBy (good v i) = A.Literal v
+valuedBy (bad i) = A.Wrong badArguments
+
+unfoldable pub literalSaid : List ℕ → Argument
+literalSaid w = valuedBy (readLiteral w)
+
+abbrev pub knownOperand : Found → Argument
+knownOperand (at i) = A.Operand (name i)
+knownOperand nowhere = A.Wrong undeclared
+
+abbrev pub literalOperand : Literal → Argument
+literalOperand (good v i) = A.Operand (literal v)
+literalOperand (bad i) = A.Wrong badArguments
+
+unfoldable pub operandSaid : List (List ℕ) → List ℕ → Argument
+operandSaid names w = cond (nameForm w) (knownOperand (seek names w)) (literalOperand (readLiteral w))
+
+abbrev pub letteredBy : TypeName → Argument
+letteredBy (letters t) = A.Letters t
+letteredBy noType = A.Wrong badArguments
+
+unfoldable pub typeSaid : List ℕ → Argument
+typeSaid w = letteredBy (readType w)
+
+abbrev pub numberedBy : Small → Argument
+numberedBy (number n) = A.Number n
+numberedBy noNumber = A.Wrong badArguments
+
+unfoldable pub numberSaid : List ℕ → Argument
+numberSaid w = numberedBy (readNumber w)
+
+unfoldable pub signs : List (List ℕ)
+signs = padded (ascii "==") ∷ padded (ascii "!=") ∷ padded (ascii "<") ∷ padded (ascii "<=") ∷ padded (ascii ">") ∷ padded (ascii ">=") ∷ []
+
+unfoldable pub comparisonAt : ℕ → Comparison
+comparisonAt i = getD (equal ∷ unequal ∷ less ∷ atMost ∷ greater ∷ atLeast ∷ []) i atLeast
+
+abbrev pub comparedBy : Found → Argument
+comparedBy (at i) = A.Comparison (comparisonAt i)
+comparedBy nowhere = A.Wrong badArguments
+
+unfoldable pub comparisonSaid : List ℕ → Argument
+comparisonSaid w = comparedBy (seek signs w)
+
+unfoldable pub said : Form → List (List ℕ) → List ℕ → Argument
+said F.Nothing names w = emptySaid w
+said F.New names w = newSaid names w
+said F.Name names w = nameSaid names w
+said F.Operand names w = operandSaid names w
+said F.Literal names w = literalSaid w
+said F.Letters names w = typeSaid w
+said F.Number names w = numberSaid w
+said F.Comparison names w = comparisonSaid w
+said F.Text names w = A.Wrong badArguments
+
+-- ---- the text of send_string: a quote, bytes without quote, a quote
+
+abbrev pub stopped : Argument → ℕ → Said
+stopped x n = record { argument = x; stop = n }
+
+-- a text that begins at f and whose quote is at q
+abbrev pub closedAt : List ℕ → ℕ → ℕ → Said
+closedAt line f q = cond (ltb q (length line)) (stopped (A.Text (record { start = f; end = q })) (q + 1)) (stopped (A.Wrong badArguments) (length line))
+
+abbrev pub afterQuote : List ℕ → ℕ → Said
+afterQuote line f = closedAt line f (f + before 34 (drop f line))
+
+abbrev pub textFrom : List ℕ → ℕ → Said
+textFrom line f = cond (eqb (getD line f 0) 34) (afterQuote line (f + 1)) (stopped (A.Wrong badArguments) (length line))
+
+unfoldable pub textAt : List ℕ → ℕ → Said
+textAt line i = textFrom line (i + run Blank (drop i line))
+
+abbrev pub isText : Form → Bool
+isText F.Nothing = false
+isText F.New = false
+isText F.Name = false
+isText F.Operand = false
+isText F.Literal = false
+isText F.Letters = false
+isText F.Number = false
+isText F.Comparison = false
+isText F.Text = true
+
+-- ---- the argument that begins at a place, and where it stops
+
+unfoldable pub saidAt : List (List ℕ) → List ℕ → Form → ℕ → Said
+saidAt names line form i =
+    cond (isText form) (textAt line i) (stopped (said form names (part line (wordAt line i))) (wordAt line i .end))

@@ -1,0 +1,97 @@
+-- Laws of the judgement of a line. Assumes nothing.
+use mathlib.Core.Path.{_≡_, refl, sym, _∙_, ap, ap₂}
+use mathlib.Core.Bool.{Bool, true, false, cond}
+use mathlib.Core.List.{List, [], _∷_}
+use Prim.Native.Nat.{ℕ, _≤_, _<_}
+use native.Mathlib.Omega.{arith}
+use lib.Dec.{ltb}
+use borrow.Author.Tests.{lt-ltb, le-ltb}
+use types.Run.{OneOf, miss}
+use denote.Enum.Declared.{tagOf}
+use Rattle.table.specs.declared.Item.{Item}
+use Rattle.word.specs.declared.Span.{Span}
+use Rattle.word.specs.declared.Found.{Found}
+use Rattle.word.specs.declared.Found.the-variants.{At as at, Nothing as nowhere}
+use Rattle.word.specs.Word.{wordAt, part, padded, sameBytes, place, seek}
+use Rattle.argument.specs.declared.Refusal.{Refusal}
+use Rattle.argument.specs.declared.Refusal.the-variants as R
+use Rattle.argument.specs.Refusal.{numberOf}
+use Rattle.argument.specs.declared.Argument.{Argument}
+use Rattle.argument.specs.declared.Argument.the-variants as A
+use Rattle.argument.specs.Argument.{wrongOf}
+use lib.ListN.{length}
+use Rattle.argument.proofs.Past.{word-past}
+use Rattle.argument.proofs.Argument.{the-type}
+use Rattle.line.specs.Command.{Make, Command, Arguments, itemOf, commands, tagCommand, commandWords, commandAt}
+use Rattle.line.specs.Line.{Judgement, item, refused, argumentsAt, lower, lowest, verdict, byCommand, judged}
+
+-- ---- the lower of two numbers
+
+pub lower-left : (a b x y : ℕ) → x ≡ a → y ≡ b → x < y → a ≡ lower a b
+unfolding lower
+lower-left a b x y e f h = let g : a < b = omega arith in sym (simp (lt-ltb a b g))
+
+pub lower-right : (a b x y : ℕ) → x ≡ a → y ≡ b → y ≤ x → b ≡ lower a b
+unfolding lower
+lower-right a b x y e f h = let g : b ≤ a = omega arith in sym (simp (le-ltb a b g))
+
+-- ---- the judgement
+
+pub unknown : (names : List (List ℕ)) (line : List ℕ) (i : ℕ) (w : Span) → w ≡ wordAt line i → seek commandWords (part line w) ≡ nowhere → refused 14 ≡ judged names line i
+unfolding judged
+unknown names line i w e f = sym (ap₂ (λ (v : Span) (g : Found). byCommand names line (v .end) g) (sym e) (ap (λ (v : Span). seek commandWords (part line v)) (sym e) ∙ f))
+
+no-word : seek commandWords [] ≡ nowhere
+unfolding seek commandWords commands padded tagCommand place sameBytes
+no-word = refl
+
+pub past : (names : List (List ℕ)) (line : List ℕ) (i : ℕ) → length line < i → refused 14 ≡ judged names line i
+past names line i h = unknown names line i (wordAt line i) refl (ap (seek commandWords) (word-past line i h .0) ∙ no-word)
+
+pub known : (names : List (List ℕ)) (line : List ℕ) (i : ℕ) (w : Span) (k : ℕ) (shape : List ℕ) (x : Arguments)
+    → w ≡ wordAt line i → seek commandWords (part line w) ≡ at k → shape ≡ commandAt k .shape → x ≡ argumentsAt names line shape (w .end)
+    → judged names line i ≡ verdict (commandAt k) x
+unfolding judged
+known names line i w k shape x e f g h =
+    ap₂ (λ (v : Span) (y : Found). byCommand names line (v .end) y) (sym e) (ap (λ (v : Span). seek commandWords (part line v)) (sym e) ∙ f)
+    ∙ ap (λ (y : Arguments). verdict (commandAt k) y) (sym (h ∙ ap (λ (s : List ℕ). argumentsAt names line s (w .end)) g))
+
+below : (r : Refusal) → numberOf r < 19
+unfolding numberOf
+below R.TooLong = omega arith
+below R.NoEnd = omega arith
+below R.LongLine = omega arith
+below R.TooManyItems = omega arith
+below R.UnknownCommand = omega arith
+below R.BadArguments = omega arith
+below R.Undeclared = omega arith
+below R.DeclaredTwice = omega arith
+below R.TooManyNames = omega arith
+
+-- the worst argument is wrong
+pub faulty : (c : Command) (x : Arguments) (y : Argument) (r : Refusal) → wrongOf y ≡ lowest x → y ≡ A.Wrong r → refused (numberOf r) ≡ verdict c x
+faulty c x y r e f =
+    let z : lowest x ≡ numberOf r = sym e ∙ ap wrongOf f in
+    sym (simp (z, lt-ltb (numberOf r) 19 (below r)))
+
+-- the tags of arguments that are not wrong
+abbrev pub right : List ℕ
+right = 0 ∷ 1 ∷ 2 ∷ 3 ∷ 4 ∷ 5 ∷ 6 ∷ 7 ∷ []
+
+pub not-wrong : (y : Argument) → OneOf right (tagOf the-type y) → wrongOf y ≡ 19
+not-wrong A.Nothing k = refl
+not-wrong (A.Name y) k = refl
+not-wrong (A.Operand y) k = refl
+not-wrong (A.Literal y) k = refl
+not-wrong (A.Letters y) k = refl
+not-wrong (A.Number y) k = refl
+not-wrong (A.Comparison y) k = refl
+not-wrong (A.Text y) k = refl
+not-wrong (A.Wrong y) k = absurd (miss right 8 tt k)
+
+-- none is
+pub good : (c : Command) (x : Arguments) (y : Argument) (make : Make) (it : Item) → wrongOf y ≡ lowest x → OneOf right (tagOf the-type y)
+    → make ≡ c .make → it ≡ itemOf make x → item it ≡ verdict c x
+good c x y make it e k f g =
+    let z : lowest x ≡ 19 = sym e ∙ not-wrong y k in
+    ap item (g ∙ ap (λ (m : Make). itemOf m x) f) ∙ sym (simp (z))

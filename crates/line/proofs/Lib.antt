@@ -1,0 +1,4 @@
+pub mod Rows
+pub mod Judge
+pub mod All
+pub mod Tight

@@ -1,0 +1,21 @@
+-- No second answer fits a public function's contract.
+use mathlib.Core.Path.{_≡_, refl, sym, _∙_, ap}
+use mathlib.Core.List.{List}
+use Prim.Native.Nat.{ℕ}
+use native.Mathlib.Omega.{arith}
+use Rattle.table.specs.declared.Item.{Item}
+use Rattle.argument.specs.Refusal.{numberOf}
+use Rattle.argument.proofs.Refusals.{same-number}
+use Rattle.line.specs.declared.Judged.{Judged}
+use Rattle.line.specs.declared.Judged.the-variants as J
+use Rattle.line.specs.Line.{Judgement, item, refused, meaning, judged}
+
+same-meaning : (r r' : Judged) → meaning r ≡ meaning r' → r ≡ r'
+unfolding meaning
+same-meaning (J.Item a) (J.Item b) e = let q : a ≡ b = cc in ap J.Item q
+same-meaning (J.Item a) (J.Refused b) e = let z : _≡_ {A = ℕ} 0 1 = cc in absurd (omega arith)
+same-meaning (J.Refused a) (J.Item b) e = let z : _≡_ {A = ℕ} 0 1 = cc in absurd (omega arith)
+same-meaning (J.Refused a) (J.Refused b) e = let q : numberOf a ≡ numberOf b = cc in ap J.Refused (same-number a b q)
+
+pub only-judge-line : (script : List ℕ) (i : ℕ) (names : List (List ℕ)) (r r' : Judged) → meaning r ≡ judged names script i → meaning r' ≡ judged names script i → r ≡ r'
+only-judge-line script i names r r' e e' = same-meaning r r' (e ∙ sym e')

@@ -1,0 +1,30 @@
+use mathlib.Core.Path.{_≡_, refl, sym, _∙_, ap}
+use native.Mathlib.Omega.{arith}
+use lib.ListN.{length, take, drop, getD}
+use borrow.Author.Tests.{lt-ltb, lt-leb, le-leb, le-ltb, eq-eqb, ne-eqb, not-true, not-false}
+use Rattle.argument.specs.Argument.{nameOf, operandOf, valueOf, lettersOf, smallOf, comparisonOf, textOf, wrongOf}
+use Rattle.line.specs.Command.{conditionOf, sweepOf, actOf, packOf, headOf, branchOf, itemOf, commands, tagCommand, commandWords, commandAt, formOf}
+use Rattle.line.specs.Line.{argumentsAt, lower, lowest, meaning, judged}
+use Rattle.word.specs.Word.{padded}
+use borrow.Author.Needs.{needs}
+use Rattle.line.proofs.find_command.Statement.{statement}
+use Rattle.line.proofs.find_command.Tie as tie
+use Rattle.line.proofs.find_command.Reads as reads
+use Rattle.line.proofs.find_command.Lts as lts
+use Rattle.word.proofs.seek_word.Reads as seek-word-reads
+
+-- src/lib.rt:200:21
+slice-aggregate-seek-word : tie.Need-slice-aggregate-seek-word
+slice-aggregate-seek-word c = search needs
+
+-- src/lib.rt:200:5
+seek-word-requires : tie.Need-seek-word-requires
+seek-word-requires c κs = search needs
+
+-- src/lib.rt:197:1
+returns : tie.Need-returns
+unfolding commandWords commands padded tagCommand
+returns c = c .seek-word .ensures
+
+pub find-command-spec : {M : Type 1} → statement M
+find-command-spec = tie.close (tie.spec slice-aggregate-seek-word seek-word-requires returns)

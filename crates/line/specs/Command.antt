@@ -1,0 +1,153 @@
+-- 01, "Script text", Items: the commands, one line each: its word, the forms of its arguments, and the item that they make.
+use Prim.Native.Nat.{ℕ, _-_}
+use mathlib.Core.Bool.{cond}
+use lib.Dec.{eqb}
+use Prim.Native.String.{String}
+use mathlib.Core.List.{List, [], _∷_, _++_, map}
+use lib.ListN.{length, getD, replicate}
+use Rattle.value.specs.declared.Operation.{Operation}
+use Rattle.value.specs.declared.Operation.the-variants.{Add as add, Sub as sub, Mul as mul, Div as div}
+use Rattle.table.specs.declared.Condition.{Condition}
+use Rattle.table.specs.declared.Sweep.{Sweep}
+use Rattle.table.specs.declared.Act.{Act}
+use Rattle.table.specs.declared.Act.the-variants.{Var as var, Store as store, Copy as copy, Calc as calc, Meas as meas, TimerGet as timerGet, SendString as sendString, Wait as wait, SetE as setE, SetMode as setMode, TimerStart as timerStart, CellOn as cellOn, CellOff as cellOff, Abort as abort}
+use Rattle.table.specs.declared.Pack.{Pack}
+use Rattle.table.specs.declared.Pack.the-variants.{Start as pckStart, Add as pckAdd, End as pckEnd}
+use Rattle.table.specs.declared.Head.{Head}
+use Rattle.table.specs.declared.Head.the-variants.{If as if', Loop as loop, Sweep as sweep}
+use Rattle.table.specs.declared.Branch.{Branch}
+use Rattle.table.specs.declared.Branch.the-variants.{ElseIf as elseif, Else as else}
+use Rattle.table.specs.declared.Close.{Close}
+use Rattle.table.specs.declared.Close.the-variants.{EndIf as endif, EndLoop as endloop}
+use Rattle.table.specs.declared.Item.{Item}
+use Rattle.table.specs.declared.Item.the-variants.{Act as act, Pack as pack, Open as opens, Branch as branch, Close as closes, Break as breakloop, Tag as tag}
+use Rattle.word.specs.Word.{ascii, padded}
+use Rattle.argument.specs.declared.Argument.{Argument}
+use Rattle.argument.specs.declared.Form.{Form}
+use Rattle.argument.specs.declared.Form.the-variants.{Nothing, New, Name, Operand, Literal, Letters, Number, Comparison, Text}
+use Rattle.argument.specs.Argument.{nameOf, operandOf, valueOf, lettersOf, smallOf, comparisonOf, textOf}
+pub use Rattle.line.specs.declared.Arguments.{Arguments}
+pub use Rattle.line.specs.declared.MakeAct.{MakeAct}
+pub use Rattle.line.specs.declared.MakeAct.the-variants as A
+pub use Rattle.line.specs.declared.MakePack.{MakePack}
+pub use Rattle.line.specs.declared.MakePack.the-variants as P
+pub use Rattle.line.specs.declared.MakeHead.{MakeHead}
+pub use Rattle.line.specs.declared.MakeHead.the-variants as H
+pub use Rattle.line.specs.declared.MakeBranch.{MakeBranch}
+pub use Rattle.line.specs.declared.MakeBranch.the-variants as B
+pub use Rattle.line.specs.declared.Make.{Make}
+pub use Rattle.line.specs.declared.Make.the-variants as M
+
+-- ---- what a command makes of its arguments
+
+abbrev pub conditionOf : Argument → Argument → Argument → Condition
+conditionOf a b c = record { left = operandOf a; by = comparisonOf b; right = operandOf c }
+
+abbrev pub sweepOf : Arguments → Sweep
+sweepOf x = record { potential = nameOf (x .a); current = nameOf (x .b); begin = operandOf (x .c); end = operandOf (x .d); step = operandOf (x .e); rate = operandOf (x .f) }
+
+abbrev pub actOf : MakeAct → Argument → Argument → Argument → Act
+actOf A.Var a b c = var (nameOf a)
+actOf A.Store a b c = store (nameOf a) (valueOf b) (lettersOf c)
+actOf A.Copy a b c = copy (nameOf a) (nameOf b)
+actOf (A.Calc o) a b c = calc o (nameOf a) (operandOf b)
+actOf A.Meas a b c = meas (operandOf a) (nameOf b) (lettersOf c)
+actOf A.TimerGet a b c = timerGet (nameOf a)
+actOf A.SendString a b c = sendString (textOf a)
+actOf A.Wait a b c = wait (operandOf a)
+actOf A.SetE a b c = setE (operandOf a)
+actOf A.SetMode a b c = setMode (smallOf a)
+actOf A.TimerStart a b c = timerStart
+actOf A.CellOn a b c = cellOn
+actOf A.CellOff a b c = cellOff
+actOf A.Abort a b c = abort
+
+abbrev pub packOf : MakePack → Argument → Pack
+packOf P.Start a = pckStart
+packOf P.Add a = pckAdd (nameOf a)
+packOf P.End a = pckEnd
+
+abbrev pub headOf : MakeHead → Arguments → Head
+headOf H.If x = if' (conditionOf (x .a) (x .b) (x .c))
+headOf H.Loop x = loop (conditionOf (x .a) (x .b) (x .c))
+headOf H.Sweep x = sweep (sweepOf x)
+
+abbrev pub branchOf : MakeBranch → Argument → Argument → Argument → Branch
+branchOf B.ElseIf a b c = elseif (conditionOf a b c)
+branchOf B.Else a b c = else
+
+abbrev pub itemOf : Make → Arguments → Item
+itemOf (M.Act m) x = act (actOf m (x .a) (x .b) (x .c))
+itemOf (M.Pack m) x = pack (packOf m (x .a))
+itemOf (M.Open m) x = opens (headOf m x)
+itemOf (M.Branch m) x = branch (branchOf m (x .a) (x .b) (x .c))
+itemOf (M.Close m) x = closes m
+itemOf M.Break x = breakloop
+itemOf M.Tag x = tag
+
+-- ---- the table
+
+-- a command: its word, the letters of its arguments, and what it makes of them
+pub record Command : Type 0 where
+  pub word : List ℕ
+  pub shape : List ℕ
+  pub make : Make
+
+abbrev pub row : String → String → Make → Command
+row w s m = record { word = padded (ascii w); shape = ascii s ++ replicate (6 - length (ascii s)) 32; make = m }
+
+unfoldable pub tagCommand : Command
+unfolding padded
+tagCommand = row "on_finished:" "" M.Tag
+
+-- the letters are those of 01, x also where it writes f; w is a new name, l a literal, o a comparison, s a text
+unfoldable pub commands : List Command
+unfolding padded tagCommand
+commands =
+    row "var" "w" (M.Act A.Var) ∷
+    row "store_var" "vlt" (M.Act A.Store) ∷
+    row "copy_var" "vv" (M.Act A.Copy) ∷
+    row "add_var" "vx" (M.Act (A.Calc add)) ∷
+    row "sub_var" "vx" (M.Act (A.Calc sub)) ∷
+    row "mul_var" "vx" (M.Act (A.Calc mul)) ∷
+    row "div_var" "vx" (M.Act (A.Calc div)) ∷
+    row "if" "xox" (M.Open H.If) ∷
+    row "elseif" "xox" (M.Branch B.ElseIf) ∷
+    row "loop" "xox" (M.Open H.Loop) ∷
+    row "meas_loop_lsv" "vvxxxx" (M.Open H.Sweep) ∷
+    row "meas" "xvt" (M.Act A.Meas) ∷
+    row "timer_get" "v" (M.Act A.TimerGet) ∷
+    row "pck_add" "v" (M.Pack P.Add) ∷
+    row "send_string" "s" (M.Act A.SendString) ∷
+    row "wait" "x" (M.Act A.Wait) ∷
+    row "set_e" "x" (M.Act A.SetE) ∷
+    row "set_pgstat_mode" "n" (M.Act A.SetMode) ∷
+    row "else" "" (M.Branch B.Else) ∷
+    row "endif" "" (M.Close endif) ∷
+    row "endloop" "" (M.Close endloop) ∷
+    row "breakloop" "" M.Break ∷
+    row "timer_start" "" (M.Act A.TimerStart) ∷
+    row "pck_start" "" (M.Pack P.Start) ∷
+    row "pck_end" "" (M.Pack P.End) ∷
+    row "cell_on" "" (M.Act A.CellOn) ∷
+    row "cell_off" "" (M.Act A.CellOff) ∷
+    row "abort" "" (M.Act A.Abort) ∷
+    tagCommand ∷ []
+
+unfoldable pub commandWords : List (List ℕ)
+unfolding commands
+commandWords = map (λ (c : Command). c .word) commands
+
+unfoldable pub commandAt : ℕ → Command
+commandAt k = getD commands k tagCommand
+
+unfoldable pub formOf : ℕ → Form
+formOf c =
+    cond (eqb c 119) New
+    (cond (eqb c 118) Name
+    (cond (eqb c 120) Operand
+    (cond (eqb c 108) Literal
+    (cond (eqb c 116) Letters
+    (cond (eqb c 110) Number
+    (cond (eqb c 111) Comparison
+    (cond (eqb c 115) Text Nothing)))))))

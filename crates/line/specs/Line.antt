@@ -1,0 +1,57 @@
+-- 01, "Script text" and "The checker": a line that is not skipped: its item, or the lowest of its numbers 14 to 18.
+use mathlib.Core.Bool.{Bool, true, false, cond}
+use mathlib.Core.List.{List, [], _∷_}
+use Prim.Native.Nat.{ℕ}
+use lib.Dec.{ltb}
+use lib.ListN.{getD}
+use Rattle.table.specs.declared.Item.{Item}
+use Rattle.word.specs.declared.Found.{Found}
+use Rattle.word.specs.declared.Found.the-variants.{At as at, Nothing as nowhere}
+use Rattle.word.specs.Word.{wordAt, part, seek}
+use Rattle.argument.specs.Refusal.{numberOf}
+use Rattle.argument.specs.declared.Form.the-variants.{Nothing}
+use Rattle.argument.specs.declared.Said.{Said}
+use Rattle.argument.specs.Argument.{wrongOf, saidAt}
+use Rattle.line.specs.Command.{Command, Arguments, itemOf, commandWords, commandAt, formOf}
+use Rattle.line.specs.declared.Judged.{Judged}
+use Rattle.line.specs.declared.Judged.the-variants as J
+
+-- a line's item, or a number
+pub data Judgement : Type 0 where
+  item : Item → Judgement
+  refused : ℕ → Judgement
+
+unfoldable pub meaning : Judged → Judgement
+meaning (J.Item it) = item it
+meaning (J.Refused r) = refused (numberOf r)
+
+-- all arguments, and that nothing follows them
+unfoldable pub argumentsAt : List (List ℕ) → List ℕ → List ℕ → ℕ → Arguments
+argumentsAt names line k i =
+    let a : Said = saidAt names line (formOf (getD k 0 0)) i in
+    let b : Said = saidAt names line (formOf (getD k 1 0)) (a .stop) in
+    let c : Said = saidAt names line (formOf (getD k 2 0)) (b .stop) in
+    let d : Said = saidAt names line (formOf (getD k 3 0)) (c .stop) in
+    let e : Said = saidAt names line (formOf (getD k 4 0)) (d .stop) in
+    let f : Said = saidAt names line (formOf (getD k 5 0)) (e .stop) in
+    let g : Said = saidAt names line Nothing (f .stop) in
+    record { a = a .argument; b = b .argument; c = c .argument; d = d .argument; e = e .argument; f = f .argument; end = g .argument }
+
+unfoldable pub lower : ℕ → ℕ → ℕ
+lower a b = cond (ltb a b) a b
+
+-- "lowest number within a line"; 19, above all numbers of form, where nothing is wrong
+unfoldable pub lowest : Arguments → ℕ
+lowest x = lower (wrongOf (x .a)) (lower (wrongOf (x .b)) (lower (wrongOf (x .c)) (lower (wrongOf (x .d)) (lower (wrongOf (x .e)) (lower (wrongOf (x .f)) (wrongOf (x .end)))))))
+
+abbrev pub verdict : Command → Arguments → Judgement
+verdict c x = cond (ltb (lowest x) 19) (refused (lowest x)) (item (itemOf (c .make) x))
+
+-- 14 for an unknown command, else what its arguments say
+abbrev pub byCommand : List (List ℕ) → List ℕ → ℕ → Found → Judgement
+byCommand names line i nowhere = refused 14
+byCommand names line i (at k) = verdict (commandAt k) (argumentsAt names line (commandAt k .shape) i)
+
+-- the line that stands from a place up to the end of these bytes of the script
+unfoldable pub judged : List (List ℕ) → List ℕ → ℕ → Judgement
+judged names line i = byCommand names line (wordAt line i .end) (seek commandWords (part line (wordAt line i)))

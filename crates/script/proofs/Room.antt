@@ -1,0 +1,150 @@
+-- Where a line declares a name there is room for it. Assumes nothing.
+use mathlib.Core.Path.{_≡_, refl, sym, _∙_, ap}
+use mathlib.Core.Bool.{Bool, true, false, cond}
+use mathlib.Core.List.{List, [], _∷_}
+use Prim.Native.Nat.{ℕ, zero, suc, _+_, _≤_, _<_}
+use native.Mathlib.Omega.{arith}
+use lib.Dec.{ltb}
+use lib.ListN.{length, getD}
+use borrow.Author.Tests.{ltb-true, ltb-false}
+use Rattle.table.specs.declared.Item.{Item}
+use Rattle.table.specs.declared.Script.{Script}
+use Rattle.word.specs.Word.{wordAt, part, padded, skipped, nameForm, seek}
+use Rattle.word.specs.declared.Found.{Found}
+use Rattle.word.specs.declared.Found.the-variants as At
+use Rattle.argument.specs.Refusal.{numberOf}
+use Rattle.argument.specs.declared.Refusal.the-variants as R
+use Rattle.argument.specs.declared.Argument.the-variants as A
+use Rattle.argument.specs.declared.Form.{Form}
+use Rattle.argument.specs.declared.Form.the-variants as F
+use Rattle.argument.specs.Argument.{wrongOf, newSaid, fresh, said, saidAt}
+use Rattle.line.specs.declared.Arguments.{Arguments}
+use Rattle.line.specs.Command.{Command, commands, commandAt, tagCommand, commandWords, itemOf, formOf}
+use Rattle.line.specs.Line.{Judgement, item, refused, argumentsAt, lower, lowest, byCommand, judged}
+use Rattle.script.specs.Load.{declares, counted, appended, nothing, given, taking, lineStep}
+
+unfoldable pub isNew : Form → Bool
+isNew F.Nothing = false
+isNew F.New = true
+isNew F.Name = false
+isNew F.Operand = false
+isNew F.Literal = false
+isNew F.Letters = false
+isNew F.Number = false
+isNew F.Comparison = false
+isNew F.Text = false
+
+-- an item declares a name exactly where its command asks for a new one
+abbrev pub Right : Command → Type 0
+Right c = (x : Arguments) → declares (itemOf (c .make) x) ≡ isNew (formOf (getD (c .shape) 0 0))
+
+abbrev All : List Command → Type 0
+All [] = Unit {0}
+All (c ∷ cs) = Right c × All cs
+
+all : All commands
+unfolding commands tagCommand isNew formOf padded
+all = (λ x. refl, (λ x. refl, (λ x. refl, (λ x. refl, (λ x. refl, (λ x. refl, (λ x. refl, (λ x. refl, (λ x. refl, (λ x. refl, (λ x. refl, (λ x. refl, (λ x. refl, (λ x. refl, (λ x. refl, (λ x. refl, (λ x. refl, (λ x. refl, (λ x. refl, (λ x. refl, (λ x. refl, (λ x. refl, (λ x. refl, (λ x. refl, (λ x. refl, (λ x. refl, (λ x. refl, (λ x. refl, (λ x. refl, tt)))))))))))))))))))))))))))))
+
+at-row : (cs : List Command) (d : Command) → All cs → Right d → (k : ℕ) → Right (getD cs k d)
+at-row [] d h g k = g
+at-row (c ∷ cs) d h g zero = h .0
+at-row (c ∷ cs) d h g (suc k) = at-row cs d (h .1) g k
+
+pub right : (k : ℕ) → Right (commandAt k)
+unfolding commandAt commands tagCommand isNew formOf padded
+right k = at-row commands tagCommand all (λ x. refl) k
+
+new-room : (names : List (List ℕ)) (w : List ℕ) → 19 ≤ wrongOf (newSaid names w) → length names < 32
+unfolding newSaid numberOf
+new-room names w h = go (nameForm w) (seek names w) h
+  where
+    go : (b : Bool) (f : Found) → 19 ≤ wrongOf (cond b (fresh (length names) f) (A.Wrong R.BadArguments)) → length names < 32
+    go false f h = absurd (omega arith)
+    go true (At.At i) h = absurd (omega arith)
+    go true At.Nothing h = full (ltb (length names) 32) refl h
+      where
+        full : (b : Bool) → ltb (length names) 32 ≡ b → 19 ≤ wrongOf (cond b (A.Name (length names)) (A.Wrong R.TooManyNames)) → length names < 32
+        full true e h = ltb-true _ _ e
+        full false e h = absurd (omega arith)
+
+lower-left : (a b : ℕ) → 19 ≤ lower a b → 19 ≤ a
+unfolding lower
+lower-left a b h = go (ltb a b) refl h
+  where
+    go : (t : Bool) → ltb a b ≡ t → 19 ≤ cond t a b → 19 ≤ a
+    go true e h = h
+    go false e h = omega (arith, ltb-false a b e)
+
+first-fault : (x : Arguments) → 19 ≤ lowest x → 19 ≤ wrongOf (x .a)
+unfolding lowest
+first-fault x h = lower-left _ _ h
+
+first-new : (names : List (List ℕ)) (line : List ℕ) (i : ℕ) (f : Form) → isNew f ≡ true
+    → 19 ≤ wrongOf (saidAt names line f i .argument) → length names < 32
+unfolding isNew saidAt said
+first-new names line i F.New e h = new-room names (part line (wordAt line i)) h
+first-new names line i F.Nothing e h = let z : _≡_ {A = ℕ} 0 1 = cc in absurd (omega arith)
+first-new names line i F.Name e h = let z : _≡_ {A = ℕ} 0 1 = cc in absurd (omega arith)
+first-new names line i F.Operand e h = let z : _≡_ {A = ℕ} 0 1 = cc in absurd (omega arith)
+first-new names line i F.Literal e h = let z : _≡_ {A = ℕ} 0 1 = cc in absurd (omega arith)
+first-new names line i F.Letters e h = let z : _≡_ {A = ℕ} 0 1 = cc in absurd (omega arith)
+first-new names line i F.Number e h = let z : _≡_ {A = ℕ} 0 1 = cc in absurd (omega arith)
+first-new names line i F.Comparison e h = let z : _≡_ {A = ℕ} 0 1 = cc in absurd (omega arith)
+first-new names line i F.Text e h = let z : _≡_ {A = ℕ} 0 1 = cc in absurd (omega arith)
+
+unfoldable pub item-of : Judgement → Item → Item
+item-of (item it) d = it
+item-of (refused k) d = d
+
+-- a line that declares a name does so where fewer than 32 are declared
+pub room : (names : List (List ℕ)) (line : List ℕ) (i : ℕ) (it : Item) → judged names line i ≡ item it → declares it ≡ true → length names < 32
+unfolding judged argumentsAt item-of
+room names line i it e d = go (seek commandWords (part line (wordAt line i))) e
+  where
+    go : (f : Found) → byCommand names line (wordAt line i .end) f ≡ item it → length names < 32
+    go At.Nothing e = let z : _≡_ {A = ℕ} 0 1 = cc in absurd (omega arith)
+    go (At.At k) e = by (ltb (lowest x) 19) refl e
+      where
+        x : Arguments
+        x = argumentsAt names line (commandAt k .shape) (wordAt line i .end)
+
+        by : (t : Bool) → ltb (lowest x) 19 ≡ t → cond t (refused (lowest x)) (item (itemOf (commandAt k .make) x)) ≡ item it → length names < 32
+        by true q e = let z : _≡_ {A = ℕ} 0 1 = cc in absurd (omega arith)
+        by false q e =
+            let same : itemOf (commandAt k .make) x ≡ it = ap (λ (j : Judgement). item-of j it) e in
+            let new : isNew (formOf (getD (commandAt k .shape) 0 0)) ≡ true = sym (right k x) ∙ ap declares same ∙ d in
+            first-new names line (wordAt line i .end) (formOf (getD (commandAt k .shape) 0 0)) new (first-fault x (ltb-false _ _ q))
+
+-- ---- so the names stay few
+
+pub record Few (n m : ℕ) : Type 0 where
+  pub most : m ≤ 32
+  pub kept : n ≤ m
+  pub next : m ≤ n + 1
+
+pub count-few : (n : ℕ) (it : Item) → n ≤ 32 → (declares it ≡ true → n < 32) → Few n (counted n it)
+unfolding counted
+count-few n it h r = go (declares it) refl
+  where
+    go : (b : Bool) → declares it ≡ b → Few n (cond b (n + 1) n)
+    go true e = let l : n < 32 = r e in record { most = omega arith; kept = omega arith; next = omega arith }
+    go false e = record { most = h; kept = omega arith; next = omega arith }
+
+pub few : (p : Script) (names : List (List ℕ)) (line upto : List ℕ) (i nr : ℕ) → p .names ≡ length names → length names ≤ 32
+    → Few (p .names) (lineStep p names line upto i nr .script .names)
+unfolding lineStep appended
+few p names line upto i nr e h = tests (ltb 127 (length line)) (skipped line) (ltb (p .count) 128)
+  where
+    same : Few (p .names) (p .names)
+    same = record { most = omega arith; kept = omega arith; next = omega arith }
+
+    by : (j : Judgement) → judged names upto i ≡ j → Few (p .names) (taking p nr (given j) .script .names)
+    by (refused k) q = same
+    by (item it) q = count-few (p .names) it (omega arith) (λ d. omega (arith, room names upto i it q d))
+
+    tests : (a b c : Bool) → Few (p .names) (taking p nr (cond a (given (refused 12)) (cond b nothing (cond c (given (judged names upto i)) (given (refused 13))))) .script .names)
+    tests true b c = same
+    tests false true c = same
+    tests false false true = by (judged names upto i) refl
+    tests false false false = same

@@ -1,0 +1,27 @@
+-- No second answer fits a public function's contract.
+use mathlib.Core.Path.{_≡_, refl, sym, _∙_, ap, ap₂}
+use mathlib.Core.List.{List}
+use Prim.Native.Nat.{ℕ}
+use Rattle.table.specs.declared.Script.{Script}
+use Rattle.argument.specs.Refusal.{numberOf}
+use Rattle.argument.proofs.Refusals.{same-number}
+use Rattle.script.specs.declared.Answer.{Answer}
+use Rattle.script.specs.declared.Answer.the-variants.{Accepted, Refused}
+use Rattle.script.specs.declared.Loaded.{Loaded}
+use Rattle.script.specs.Load.{Outcome, answerNumber, answerLine, meaning, loaded}
+use Rattle.script.proofs.Walk.{not-zero}
+
+same-answer : (a b : Answer) → answerNumber a ≡ answerNumber b → answerLine a ≡ answerLine b → a ≡ b
+same-answer Accepted Accepted e f = refl
+same-answer Accepted (Refused r n) e f = absurd (not-zero r (sym e))
+same-answer (Refused r n) Accepted e f = absurd (not-zero r e)
+same-answer (Refused r n) (Refused r' n') e f = ap₂ Refused (same-number r r' e) f
+
+same-meaning : (r r' : Loaded) → meaning r ≡ meaning r' → r ≡ r'
+same-meaning r r' e =
+    ap₂ (λ (a : Answer) (p : Script). record { answer = a; script = p })
+    (same-answer (r .answer) (r' .answer) (ap (λ (o : Outcome). o .number) e) (ap (λ (o : Outcome). o .line) e))
+    (ap (λ (o : Outcome). o .table) e)
+
+pub only-load : (text : List ℕ) (r r' : Loaded) → meaning r ≡ loaded text → meaning r' ≡ loaded text → r ≡ r'
+only-load text r r' e e' = same-meaning r r' (e ∙ sym e')

@@ -1,0 +1,138 @@
+-- 01, "Script text" and "The checker": form. "10, then lines in order, lowest number within a line, then 11."
+use mathlib.Core.Bool.{Bool, true, false, cond}
+use mathlib.Core.List.{List, [], _∷_, _++_}
+use Prim.Native.Nat.{ℕ, _+_}
+use lib.Dec.{ltb, eqb}
+use lib.ListN.{length, take, set, replicate}
+use Rattle.text.specs.Cut.{lines}
+use Rattle.table.specs.declared.Act.{Act}
+use Rattle.table.specs.declared.Act.the-variants.{Var as var, Store as store, Copy as copy, Calc as calc, Meas as meas, TimerGet as timerGet, SendString as sendString, Wait as wait, SetE as setE, SetMode as setMode, TimerStart as timerStart, CellOn as cellOn, CellOff as cellOff, Abort as abort}
+use Rattle.table.specs.declared.Item.{Item}
+use Rattle.table.specs.declared.Item.the-variants.{Act as act, Pack as pack, Open as opens, Branch as branch, Close as closes, Break as breakloop, Tag as tag}
+use Rattle.table.specs.declared.Slot.{Slot}
+use Rattle.table.specs.declared.Script.{Script}
+use Rattle.word.specs.Word.{wordAt, part, padded, skipped}
+use Rattle.argument.specs.Refusal.{numberOf}
+use Rattle.line.specs.Line.{Judgement, item, refused, judged}
+use Rattle.script.specs.declared.Answer.{Answer}
+use Rattle.script.specs.declared.Answer.the-variants.{Accepted as acceptedBy, Refused as refusedBy}
+use Rattle.script.specs.declared.Loaded.{Loaded}
+use Rattle.script.specs.declared.Taken.{Taken}
+use Rattle.script.specs.declared.Taken.the-variants as T
+
+-- ---- what loading gives: 01's number and line, both 0 where the text is accepted, and the table
+
+pub record Outcome : Type 0 where
+  pub number : ℕ
+  pub line : ℕ
+  pub table : Script
+
+abbrev pub answerNumber : Answer → ℕ
+answerNumber acceptedBy = 0
+answerNumber (refusedBy r n) = numberOf r
+
+abbrev pub answerLine : Answer → ℕ
+answerLine acceptedBy = 0
+answerLine (refusedBy r n) = n
+
+abbrev pub meaning : Loaded → Outcome
+meaning l = record { number = answerNumber (l .answer); line = answerLine (l .answer); table = l .script }
+
+abbrev pub emptyScript : Script
+emptyScript = record { items = replicate 128 (record { item = act (var 0); line = 0 }); count = 0; names = 0; end = 0 }
+
+-- the table of a refused script is the empty one
+abbrev pub refusal : ℕ → ℕ → Outcome
+refusal k nr = record { number = k; line = nr; table = emptyScript }
+
+abbrev pub accepted : Script → ℕ → Outcome
+accepted p nr = record { number = 0; line = 0; table = record { items = p .items; count = p .count; names = p .names; end = nr } }
+
+-- ---- one item more, and the name that it declares
+
+abbrev pub declaresAct : Act → Bool
+declaresAct (var v) = true
+declaresAct (store v l t) = false
+declaresAct (copy a b) = false
+declaresAct (calc o v x) = false
+declaresAct (meas f v t) = false
+declaresAct (timerGet v) = false
+declaresAct (sendString a) = false
+declaresAct (wait f) = false
+declaresAct (setE f) = false
+declaresAct (setMode n) = false
+declaresAct timerStart = false
+declaresAct cellOn = false
+declaresAct cellOff = false
+declaresAct abort = false
+
+abbrev pub declares : Item → Bool
+declares (act a) = declaresAct a
+declares (pack p) = false
+declares (opens h) = false
+declares (branch b) = false
+declares (closes e) = false
+declares breakloop = false
+declares tag = false
+
+unfoldable pub counted : ℕ → Item → ℕ
+counted n it = cond (declares it) (n + 1) n
+
+unfoldable pub appended : Script → Item → ℕ → Script
+appended p it nr = record { items = set (p .items) (p .count) (record { item = it; line = nr }); count = p .count + 1; names = counted (p .names) it; end = p .end }
+
+-- ---- one line that is not the ending one: 12, skipped, 13, then 14 to 18 or one item more
+
+-- nothing where it is skipped, else its item or a number
+pub data Line : Type 0 where
+  nothing : Line
+  given : Judgement → Line
+
+abbrev pub takenOf : Taken → Line
+takenOf T.Skipped = nothing
+takenOf (T.Item it) = given (item it)
+takenOf (T.Refused r) = given (refused (numberOf r))
+
+-- the line, and the script's bytes up to its end, in which it stands from a place on; n items stand before it
+abbrev pub takenBy : ℕ → List (List ℕ) → List ℕ → List ℕ → ℕ → Line
+takenBy n names line upto i =
+    cond (ltb 127 (length line)) (given (refused 12))
+    (cond (skipped line) nothing
+    (cond (ltb n 128) (given (judged names upto i)) (given (refused 13))))
+
+pub record Step : Type 0 where
+  pub script : Script
+  pub number : ℕ
+
+abbrev pub step : Script → ℕ → Step
+step p k = record { script = p; number = k }
+
+abbrev pub taking : Script → ℕ → Line → Step
+taking p nr nothing = step p 0
+taking p nr (given (refused k)) = step p k
+taking p nr (given (item it)) = step (appended p it nr) 0
+
+unfoldable pub lineStep : Script → List (List ℕ) → List ℕ → List ℕ → ℕ → ℕ → Step
+lineStep p names line upto i nr = taking p nr (takenBy (p .count) names line upto i)
+
+-- ---- the names: one row more where a line declared one, its second word
+
+unfoldable pub nameRow : List ℕ → List ℕ
+nameRow line = padded (part line (wordAt line (wordAt line 0 .end)))
+
+unfoldable pub named : List (List ℕ) → ℕ → ℕ → List ℕ → List (List ℕ)
+named names n m line = cond (ltb n m) (names ++ (nameRow line ∷ [])) names
+
+-- ---- the lines in order; the first empty one ends the script
+
+unfoldable pub walk : List ℕ → Script → List (List ℕ) → ℕ → ℕ → List (List ℕ) → Outcome
+walk s p names i nr [] = refusal 11 nr
+walk s p names i nr (l ∷ ls) =
+    let t = lineStep p names l (take (i + length l) s) i nr in
+    cond (eqb (length l) 0) (accepted p nr)
+    (cond (eqb (t .number) 0)
+    (walk s (t .script) (named names (p .names) (t .script .names) l) (i + length l + 1) (nr + 1) ls)
+    (refusal (t .number) nr))
+
+unfoldable pub loaded : List ℕ → Outcome
+loaded s = cond (ltb 8192 (length s)) (refusal 10 0) (walk s emptyScript [] 0 1 (lines s))

@@ -1,0 +1,191 @@
+// The loader: a script's text becomes a table of items, or is refused by a number and a line.
+use argument::Refusal;
+use line::Judged;
+use table::Act;
+use table::Item;
+use table::Script;
+use table::Slot;
+ghost use mathlib.Core.Path.{_≡_};
+ghost use Prim.Native.Nat.{_+_, _≤_, _<_};
+ghost use lib.ListN.{length, set};
+ghost use lib.Dec.{ltb};
+ghost use mathlib.Core.Bool.{cond};
+ghost use Rattle.argument.specs.Refusal.{numberOf};
+ghost use Rattle.script.specs.Load.{emptyScript, declaresAct, declares, counted, takenOf, takenBy, nameRow, meaning, refusal, accepted, loaded};
+
+pub enum Answer {
+    Accepted,
+    Refused(Refusal, usize),
+}
+
+// The answer and the table, which is the empty one where the text is refused.
+pub struct Loaded {
+    pub answer: Answer,
+    pub script: Script,
+}
+
+// What a line gives the table.
+pub enum Taken {
+    Skipped,
+    Item(Item),
+    Refused(Refusal),
+}
+
+const MOST_BYTES: usize = 8192;
+
+const MOST_IN_LINE: usize = 127;
+
+const MOST_ITEMS: usize = 128;
+
+fn empty() -> Script
+    ensures { λ r. ⌜ r ≡ emptyScript ⌝ }
+{
+    let items = [Slot {
+        item: Item::Act(Act::Var(0)),
+        line: 0,
+    }; 128];
+    Script {
+        items,
+        count: 0,
+        names: 0,
+        end: 0,
+    }
+}
+
+fn refuse(why: Refusal, line: usize) -> Loaded
+    ensures { λ r. ⌜ meaning r ≡ refusal (numberOf why) line ⌝ }
+{
+    let script = empty();
+    Loaded {
+        answer: Answer::Refused(why, line),
+        script,
+    }
+}
+
+fn accept(script: Script, line: usize) -> Loaded
+    ensures { λ r. ⌜ meaning r ≡ accepted script line ⌝ }
+{
+    let mut q = script;
+    q.end = line;
+    Loaded {
+        answer: Answer::Accepted,
+        script: q,
+    }
+}
+
+fn act_declares(act: Act) -> bool
+    ensures { λ r. ⌜ r ≡ declaresAct act ⌝ }
+{
+    match act {
+        Act::Var(_) => true,
+        _ => false,
+    }
+}
+
+fn item_declares(item: Item) -> bool
+    ensures { λ r. ⌜ r ≡ declares item ⌝ }
+{
+    match item {
+        Item::Act(act) => act_declares(act),
+        _ => false,
+    }
+}
+
+// How many names there are after an item.
+fn count_names(n: usize, item: Item) -> usize
+    requires { ⌜ n ≤ 32 ⌝ }
+    ensures { λ r. ⌜ r ≡ counted n item ⌝ }
+{
+    if item_declares(item) {
+        return n + 1;
+    }
+    n
+}
+
+// One line that is not the ending one, which stands from `at` up to the end of `upto`.
+fn take_line(count: usize, line: &[u8], upto: &[u8], at: usize, names: &[[u8; 16]]) -> Taken
+    ensures { λ r. ⌜ takenOf r ≡ takenBy count (now (names .entry)) (now (line .entry)) (now (upto .entry)) at ⌝ }
+{
+    if MOST_IN_LINE < line.len() {
+        return Taken::Refused(Refusal::LongLine);
+    }
+    if word::is_skipped(line) {
+        return Taken::Skipped;
+    }
+    if count < MOST_ITEMS {
+        match line::judge_line(upto, at, names) {
+            Judged::Refused(refusal) => Taken::Refused(refusal),
+            Judged::Item(item) => Taken::Item(item),
+        }
+    } else {
+        Taken::Refused(Refusal::TooManyItems)
+    }
+}
+
+// The second word of a line as a row of the table of names.
+fn name_row(line: &[u8]) -> [u8; 16]
+    ensures { λ r. ⌜ r ≡ nameRow (now (line .entry)) ⌝ }
+{
+    let c = word::word_at(line, 0);
+    let past = c.end;
+    let w = word::word_at(line, past);
+    let start = w.start;
+    let end = w.end;
+    word::pad(&line[start..end])
+}
+
+// The names, with one more where a line declared one.
+fn put_name(names: [[u8; 16]; 32], n: usize, m: usize, line: &[u8]) -> [[u8; 16]; 32]
+    requires { ⌜ m ≤ 32 ⌝ }
+    ensures { λ r. ⌜ r ≡ cond (ltb n m) (set names n (nameRow (now (line .entry)))) names ⌝ }
+{
+    if n < m {
+        let row = name_row(line);
+        let mut t = names;
+        t[n] = row;
+        return t;
+    }
+    names
+}
+
+pub fn load(text: &[u8]) -> Loaded
+    ensures { λ r. ⌜ meaning r ≡ loaded (now (text .entry)) ⌝ }
+{
+    let size = text.len();
+    if MOST_BYTES < size {
+        return refuse(Refusal::TooLong, 0);
+    }
+    // The table stays where it is: copied line by line it would cost more than all the reading.
+    let mut script = empty();
+    let mut names = [[b' '; 16]; 32];
+    let mut at: usize = 0;
+    let mut number: usize = 1;
+    while at < size {
+        let stop = text::next_byte(text, at, b'\n');
+        if size <= stop {
+            return refuse(Refusal::NoEnd, number);
+        }
+        if stop == at {
+            return accept(script, number);
+        }
+        let line = &text[at..stop];
+        let count = script.count;
+        let n = script.names;
+        let here = number;
+        let taken = take_line(count, line, &text[0..stop], at, &names[..n]);
+        at = stop + 1;
+        number += 1;
+        match taken {
+            Taken::Refused(refusal) => return refuse(refusal, here),
+            Taken::Item(item) => {
+                let m = count_names(n, item);
+                names = put_name(names, n, m, line);
+                script.items[count] = Slot { item, line: here };
+                script.count = count + 1;
+                script.names = m;
+            }
+            Taken::Skipped => {}
+        }
+    }
+    refuse(Refusal::NoEnd, number)
+}

@@ -1,0 +1,67 @@
+use borrow.Author.Needs.{needs}
+use Rattle.table.proofs.wants_ok.Statement.{statement}
+use Rattle.table.proofs.wants_ok.Tie as tie
+use Rattle.table.proofs.wants_ok.Reads as reads
+use Rattle.table.proofs.wants_ok.Lts as lts
+use Rattle.table.proofs.one_want_ok.Reads as one-want-ok-reads
+use Rattle.table.proofs.operand_ok.Reads as operand-ok-reads
+
+-- src/lib.rt:575:27
+enum-told : tie.Need-enum-told
+enum-told c = search needs
+
+-- src/lib.rt:576:20
+enum-known-wants : tie.Need-enum-known-wants
+enum-known-wants c = search needs
+
+-- src/lib.rt:576:26
+one-want-ok-requires : tie.Need-one-want-ok-requires
+one-want-ok-requires c κs = search needs
+
+-- src/lib.rt:577:27
+enum-known-wants-2 : tie.Need-enum-known-wants-2
+enum-known-wants-2 c = search needs
+
+-- src/lib.rt:578:13
+operand-ok-requires : tie.Need-operand-ok-requires
+operand-ok-requires c κs = search needs
+
+-- src/lib.rt:579:19
+operand-ok-requires-2 : tie.Need-operand-ok-requires-2
+operand-ok-requires-2 c κs = search needs
+
+-- src/lib.rt:580:19
+operand-ok-requires-3 : tie.Need-operand-ok-requires-3
+operand-ok-requires-3 c κs = search needs
+
+-- src/lib.rt:581:19
+operand-ok-requires-4 : tie.Need-operand-ok-requires-4
+operand-ok-requires-4 c κs = search needs
+
+-- src/lib.rt:571:1
+returns : tie.Need-returns
+returns c = search needs
+
+-- src/lib.rt:571:1
+returns-2 : tie.Need-returns-2
+returns-2 c = simp (c .one-want-ok .ensures, c .before .before .wants .given .1)
+
+-- src/lib.rt:571:1
+returns-3 : tie.Need-returns-3
+returns-3 c = simp (c .operand-ok4 .ensures, c .before .operand-ok3 .ensures, c .before .before .operand-ok2 .ensures, c .before .before .before .operand-ok .ensures, c .before .before .before .before .before .wants2 .given .1)
+
+pub wants-ok-spec : {M : Type 1} → statement M
+wants-ok-spec =
+    tie.close
+    (tie.spec
+    enum-told
+    enum-known-wants
+    one-want-ok-requires
+    enum-known-wants-2
+    operand-ok-requires
+    operand-ok-requires-2
+    operand-ok-requires-3
+    operand-ok-requires-4
+    returns
+    returns-2
+    returns-3)

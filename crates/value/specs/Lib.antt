@@ -1,0 +1,4 @@
+pub mod Value
+pub mod Arithmetic
+pub mod Fold
+pub mod Literal

@@ -1,0 +1,58 @@
+-- Laws of runs of bytes and of words. Assumes nothing.
+use mathlib.Core.Path.{_≡_, refl, ap}
+use mathlib.Core.Bool.{Bool, true, false, cond}
+use mathlib.Core.List.{List, [], _∷_}
+use Prim.Native.Nat.{ℕ, zero, suc, _+_, _-_, _≤_, _<_}
+use native.Mathlib.Numerals.{add-one}
+use native.Mathlib.Omega.{arith}
+use lib.Dec.{eqb}
+use lib.ListN.{length, drop, getD, drop-of-length-le, length-drop}
+use lib.Seq.{drop-cons}
+use borrow.Author.Tests.{eq-eqb, ne-eqb}
+use Rattle.word.specs.Word.{Class, Blank, Solid, Span, inClass, run, wordAt, skipped}
+
+pub run-more : (k : Class) (s : List ℕ) (i : ℕ) → i < length s → inClass k (getD s i 0) ≡ true → run k (drop i s) ≡ suc (run k (drop (i + 1) s))
+unfolding run
+run-more k s i h t = rw (add-one i, drop-cons s i 0 h) (simp t)
+
+pub run-stop : (k : Class) (s : List ℕ) (i : ℕ) → i < length s → inClass k (getD s i 0) ≡ false → run k (drop i s) ≡ 0
+unfolding run
+run-stop k s i h t = rw (drop-cons s i 0 h) (simp t)
+
+pub run-end : (k : Class) (s : List ℕ) (i : ℕ) → length s ≤ i → run k (drop i s) ≡ 0
+unfolding run
+run-end k s i h = rw (drop-of-length-le s h) refl
+
+pub run-le : (k : Class) (s : List ℕ) → run k s ≤ length s
+unfolding run
+run-le k [] = omega arith
+run-le k (c ∷ s) = either (inClass k c) (run-le k s)
+  where
+    either : (t : Bool) {n m : ℕ} → n ≤ m → cond t (suc n) 0 ≤ suc m
+    either true h = omega arith
+    either false h = omega arith
+
+-- a word stands inside its line
+pub inside : (w : Span) (s : List ℕ) (i : ℕ) → w ≡ wordAt s i → i ≤ length s → (w .start ≤ w .end) × (w .end ≤ length s)
+unfolding wordAt
+inside w s i e h =
+    let f : ℕ = i + run Blank (drop i s) in
+    let es : w .start ≡ f = ap (λ (x : Span). x .start) e in
+    let ee : w .end ≡ f + run Solid (drop f s) = ap (λ (x : Span). x .end) e in
+    let a : run Blank (drop i s) ≤ length s - i = rw (← length-drop i s) (run-le Blank (drop i s)) in
+    let b : run Solid (drop f s) ≤ length s - f = rw (← length-drop f s) (run-le Solid (drop f s)) in
+    (omega arith, omega arith)
+
+-- ---- lines that are skipped
+
+pub skip-some : (s : List ℕ) (i : ℕ) → i ≡ 0 + run Blank (drop 0 s) → i < length s → eqb (getD s i 0) 35 ≡ skipped s
+unfolding skipped
+skip-some s i e h =
+    let z : run Blank s ≡ i = omega arith in
+    rw z (simp (ne-eqb i (length s) (λ q. omega arith)))
+
+pub skip-none : (s : List ℕ) (i : ℕ) → i ≡ 0 + run Blank (drop 0 s) → length s ≤ i → true ≡ skipped s
+unfolding skipped
+skip-none s i e h =
+    let z : run Blank s ≡ length s = omega (arith, run-le Blank s) in
+    simp (eq-eqb (run Blank s) (length s) z)

@@ -1,0 +1,27 @@
+use mathlib.Core.Path.{_≡_, refl, sym, _∙_, ap}
+use mathlib.Core.List.{List, _++_}
+use Prim.Native.Nat.{ℕ, _+_, _-_, _*_, _≤_, _<_}
+use native.Mathlib.Nat.{zero-add}
+use native.Mathlib.Omega.{arith}
+use borrow.Author.Needs.{needs}
+use borrow.Author.Tests.{lt-ltb, lt-leb, le-leb, le-ltb, eq-eqb, ne-eqb, not-true, not-false}
+use lib.ListN.{length, take, drop, getD, set, replicate, length-set}
+use Rattle.word.specs.Word.{inClass, run, wordAt, skipped, nameForm, readType, readSmall, smallOf, padded, sameBytes, place, seek}
+use Rattle.word.proofs.Runs as L
+use Rattle.word.proofs.is_skipped.Statement.{statement}
+use Rattle.word.proofs.is_skipped.Tie as tie
+
+run-from-requires : tie.Need-run-from-requires
+run-from-requires c κs = search needs
+
+shared-slice-read-result : tie.Need-shared-slice-read-result
+shared-slice-read-result c = search needs
+
+returns : tie.Need-returns
+returns c = L.skip-some _ _ (c .before .before .run-from .ensures) (c .before .if1 .taken)
+
+returns-2 : tie.Need-returns-2
+returns-2 c = L.skip-none _ _ (c .before .run-from .ensures) (c .if1 .left)
+
+pub is-skipped-spec : {M : Type 1} → statement M
+is-skipped-spec = tie.close (tie.spec run-from-requires shared-slice-read-result returns returns-2)

@@ -1,0 +1,192 @@
+// Words of a line: where the next one stands, names, types, small numbers, and words found in a table.
+ghost use mathlib.Core.Path.{_≡_};
+ghost use Prim.Native.Nat.{_+_, _≤_, _<_};
+ghost use lib.ListN.{length, take, drop};
+ghost use Rattle.word.specs.Word.{inClass, run, wordAt, skipped, nameForm, readType, readSmall, smallOf, padded, sameBytes, place, seek};
+
+pub enum Class {
+    Blank,
+    Solid,
+    NameByte,
+}
+
+// A part of a line, from start up to end.
+pub struct Span {
+    pub start: usize,
+    pub end: usize,
+}
+
+// The place of a row in a table.
+pub enum Found {
+    At(usize),
+    Nothing,
+}
+
+// A type is its two letters, the first times 256 and the second.
+pub enum TypeName {
+    Letters(u16),
+    Bad,
+}
+
+pub enum Small {
+    Number(u8),
+    Bad,
+}
+
+// The most bytes of a name, and the width of a table of words.
+const WIDTH: usize = 16;
+
+const LARGEST: u16 = 255;
+
+fn of_class(class: Class, c: u8) -> bool
+    ensures { λ r. ⌜ r ≡ inClass class c ⌝ }
+{
+    match class {
+        Class::Blank => text::is_blank(c),
+        Class::Solid => !text::is_blank(c),
+        Class::NameByte => text::is_name_byte(c),
+    }
+}
+
+// Where the bytes of a class that start at `at` stop.
+pub fn run_from(s: &[u8], at: usize, class: Class) -> usize
+    ensures { λ r. ⌜ r ≡ at + run class (drop at (now (s .entry))) ⌝ }
+{
+    let mut i = at;
+    while i < s.len() {
+        if !of_class(class, s[i]) {
+            return i;
+        }
+        i += 1;
+    }
+    i
+}
+
+// The next word from `at` on; where there is none, an empty one at the end.
+pub fn word_at(s: &[u8], at: usize) -> Span
+    ensures { λ r. ⌜ r ≡ wordAt (now (s .entry)) at ⌝ }
+{
+    let start = run_from(s, at, Class::Blank);
+    let end = run_from(s, start, Class::Solid);
+    Span { start, end }
+}
+
+pub fn is_skipped(line: &[u8]) -> bool
+    ensures { λ r. ⌜ r ≡ skipped (now (line .entry)) ⌝ }
+{
+    let at = run_from(line, 0, Class::Blank);
+    if at < line.len() {
+        line[at] == b'#'
+    } else {
+        true
+    }
+}
+
+pub fn is_name(word: &[u8]) -> bool
+    ensures { λ r. ⌜ r ≡ nameForm (now (word .entry)) ⌝ }
+{
+    let n = word.len();
+    if n == 0 {
+        return false;
+    }
+    if WIDTH < n {
+        return false;
+    }
+    if !text::starts_name(word[0]) {
+        return false;
+    }
+    run_from(word, 0, Class::NameByte) == n
+}
+
+pub fn read_type(word: &[u8]) -> TypeName
+    ensures { λ r. ⌜ r ≡ readType (now (word .entry)) ⌝ }
+{
+    if word.len() != 2 {
+        return TypeName::Bad;
+    }
+    if !text::is_lower(word[0]) {
+        return TypeName::Bad;
+    }
+    if !text::is_lower(word[1]) {
+        return TypeName::Bad;
+    }
+    let a = word[0] as u16;
+    let b = word[1] as u16;
+    TypeName::Letters(a * 256 + b)
+}
+
+pub fn read_small(word: &[u8]) -> Small
+    ensures { λ r. ⌜ r ≡ smallOf (now (word .entry)) ⌝ }
+{
+    if word.len() == 0 {
+        return Small::Bad;
+    }
+    let mut v: u16 = 0;
+    let mut i: usize = 0;
+    while i < word.len() {
+        let c = word[i];
+        if !text::is_digit(c) {
+            return Small::Bad;
+        }
+        v = v * 10 + (c - b'0') as u16;
+        if LARGEST < v {
+            return Small::Bad;
+        }
+        i += 1;
+    }
+    Small::Number(v as u8)
+}
+
+// A word as a row of a table: filled up with spaces, and cut where it is too long.
+pub fn pad(word: &[u8]) -> [u8; 16]
+    ensures { λ r. ⌜ r ≡ padded (now (word .entry)) ⌝ }
+{
+    let mut b = [b' '; 16];
+    let mut i: usize = 0;
+    while i < word.len() {
+        if WIDTH <= i {
+            return b;
+        }
+        b[i] = word[i];
+        i += 1;
+    }
+    b
+}
+
+pub fn same(a: [u8; 16], b: [u8; 16]) -> bool
+    ensures { λ r. ⌜ r ≡ sameBytes a b ⌝ }
+{
+    let mut i: usize = 0;
+    while i < WIDTH {
+        if a[i] != b[i] {
+            return false;
+        }
+        i += 1;
+    }
+    true
+}
+
+fn find(rows: &[[u8; 16]], key: [u8; 16]) -> Found
+    ensures { λ r. ⌜ r ≡ place 0 (now (rows .entry)) key ⌝ }
+{
+    let mut i: usize = 0;
+    while i < rows.len() {
+        let row = rows[i];
+        if same(row, key) {
+            return Found::At(i);
+        }
+        i += 1;
+    }
+    Found::Nothing
+}
+
+// The row of a table that is the word.
+pub fn seek_word(rows: &[[u8; 16]], word: &[u8]) -> Found
+    ensures { λ r. ⌜ r ≡ seek (now (rows .entry)) (now (word .entry)) ⌝ }
+{
+    if word.len() <= WIDTH {
+        let key = pad(word);
+        return find(rows, key);
+    }
+    Found::Nothing
+}
