@@ -1,0 +1,3 @@
+pub mod OpenBoxes
+pub mod Scanned
+pub mod Tight

@@ -1,0 +1,9 @@
+pub mod Names
+pub mod Boxes
+pub mod Writes
+pub mod After
+pub mod Rows
+pub mod Way
+pub mod Tight
+pub mod Pairs
+pub mod Mated

@@ -1,0 +1,179 @@
+-- Every mark of an accepted table has its mate. Assumes nothing.
+use Prim.Native.Nat.{ℕ, zero, suc, _+_, _<_}
+use mathlib.Core.Path.{_≡_, refl, sym, ap, _∙_, subst}
+use mathlib.Core.Bool.{Bool, true, false, not, _&&_, _||_, cond}
+use mathlib.Core.List.{List, [], _∷_}
+use mathlib.Core.Option.{Option, none, some}
+use native.Mathlib.Nat.{not-suc-le-zero, le-of-suc-le-suc, add-zero, zero-add}
+use native.Mathlib.Omega.{arith}
+use lib.Dec.{eqb, T}
+use lib.ListN.{length, getD, take, drop, replicate}
+use borrow.Author.Tests.{eq-eqb}
+use Rattle.rules.specs.Words.{Item, act, pack, opens, branch, closes, breakloop, tag, Branch, Close, Script, unknown}
+use Rattle.table.specs.Item.{isOpen, isBranch, isClose, fits}
+use Rattle.table.specs.Uses.{Kinds, first}
+use Rattle.table.specs.Shape.{itemsOf, inShape}
+use Rattle.mates.specs.declared.Open.{Open}
+use Rattle.mates.specs.Mates.{fitsTop, scan, scanAll, boxesAt, belongs, closeFrom, closeOf, itemAt}
+use Rattle.rules.specs.Check.{Box, State, begin, kindsOf, isEmpty, misplaced, refusals, refusalsAtEnd, after, Verdict, accepted, refused, orGo, walk, atLine, walked, verdict}
+use Rattle.rules.specs.Mated.{isFound, Mated}
+use Rattle.rules.proofs.Rows.{Quiet, no-refusal, no-refusal-at-end}
+
+no : {X : Type 0} → true ≡ false → X
+no e = absurd (subst T e tt)
+
+orGo-accepted : (n i : ℕ) (v : Verdict) → orGo n i v ≡ accepted → (n ≡ 0) × (v ≡ accepted)
+orGo-accepted zero i v e = (refl, e)
+orGo-accepted (suc n) i v e = (cc, cc)
+
+-- the open boxes by their opening items and sorts
+abbrev opensOf : List Box → List Open
+opensOf [] = []
+opensOf (b ∷ bs) = record { at = b .at; sort = b .sort } ∷ opensOf bs
+
+-- an item that is not misplaced leaves the boxes open that the text leaves open
+same-open : (i : ℕ) (s : State) (x : Item) → misplaced x (s .boxes) ≡ false → opensOf (after i s x .boxes) ≡ scan i x (opensOf (s .boxes))
+same-open i s (act a) e = refl
+same-open i s (pack p) e = refl
+same-open i s (opens h) e = refl
+same-open i s (branch b) e = by (s .boxes)
+  where
+    by : (bs : List Box) → opensOf (after i (record { sure = s .sure; boxes = bs; packed = s .packed; tagged = s .tagged }) (branch b) .boxes) ≡ opensOf bs
+    by [] = refl
+    by (x ∷ bs) = refl
+same-open i s (closes e') e = by (s .boxes) e
+  where
+    by : (bs : List Box) → misplaced (closes e') bs ≡ false
+        → opensOf (after i (record { sure = s .sure; boxes = bs; packed = s .packed; tagged = s .tagged }) (closes e') .boxes) ≡ scan i (closes e') (opensOf bs)
+    by [] d = no d
+    by (x ∷ bs) d = rw (fitting (fits (closes e') (x .sort)) d)
+      where
+        fitting : (b : Bool) → (not b || false || false) ≡ false → b ≡ true
+        fitting true d = refl
+        fitting false d = no d
+same-open i s breakloop e = refl
+same-open i s tag e = refl
+
+-- ---- a mark that is not misplaced belongs to the innermost open box
+
+belongs-inner : (x : Item) (bs : List Box) → misplaced x bs ≡ false → (isBranch x || isClose x) ≡ true → fitsTop x (opensOf bs) ≡ true
+belongs-inner x [] e m = no (sym (left-true (isBranch x || isClose x) _ m) ∙ e)
+  where
+    left-true : (a b : Bool) → a ≡ true → (a || b) ≡ true
+    left-true a b h = rw h
+belongs-inner x (b ∷ bs) e m = fitting (isBranch x || isClose x) (fits x (b .sort)) _ _ m e
+  where
+    fitting : (a f c d : Bool) → a ≡ true → (a && not f || c || d) ≡ false → f ≡ true
+    fitting true true c d h k = refl
+    fitting true false c d h k = no k
+    fitting false f c d h k = no (sym h)
+
+-- ---- a box that is open has its closing mark further on
+
+abbrev hasAt : ℕ → List Open → Bool
+hasAt p [] = false
+hasAt p (o ∷ st) = eqb (o .at) p || hasAt p st
+
+found-or : (b : Bool) (j : ℕ) (r : Option ℕ) → (b ≡ false → isFound r ≡ true) → isFound (cond b (some j) r) ≡ true
+found-or true j r h = refl
+found-or false j r h = h refl
+
+-- it stays open past an item that does not close it
+still : (p i : ℕ) (x : Item) (st : List Open) → ((isBranch x || isClose x) ≡ true → fitsTop x st ≡ true)
+    → (isClose x && belongs p x st) ≡ false → hasAt p st ≡ true → hasAt p (scan i x st) ≡ true
+still p i (act a) st f e h = h
+still p i (pack a) st f e h = h
+still p i (opens a) st f e h = or-right (eqb i p) (hasAt p st) h
+  where
+    or-right : (a b : Bool) → b ≡ true → (a || b) ≡ true
+    or-right true b h = refl
+    or-right false b h = h
+still p i (branch a) st f e h = h
+still p i (closes a) [] f e h = no (sym h)
+still p i (closes a) (o ∷ st) f e h = rw (f refl) (other (fits (closes a) (o .sort)) (eqb (o .at) p) (hasAt p st) (f refl) e h)
+  where
+    other : (g b r : Bool) → g ≡ true → (g && b) ≡ false → (b || r) ≡ true → r ≡ true
+    other true true r k d h = no d
+    other true false r k d h = h
+    other false b r k d h = no (sym k)
+still p i breakloop st f e h = h
+still p i tag st f e h = h
+
+module _ (k : Kinds) where
+  -- one item of an accepted row
+  one : (i : ℕ) (s : State) (x : Item) (xs : List Item) → walk k i s (x ∷ xs) ≡ accepted → (misplaced x (s .boxes) ≡ false) × (walk k (suc i) (after i s x) xs ≡ accepted)
+  one i s x xs e =
+      let d : (first (refusals k s x) ≡ 0) × (walk k (suc i) (after i s x) xs ≡ accepted) =
+      orGo-accepted (first (refusals k s x)) i (walk k (suc i) (after i s x) xs) e in
+      (no-refusal k s x (d .0) .1 .1 .0, d .1)
+
+  none-left : (i : ℕ) (s : State) (p : ℕ) → walk k i s [] ≡ accepted → hasAt p (opensOf (s .boxes)) ≡ true → ⊥
+  none-left i s p e h =
+      let d : (first (refusalsAtEnd s) ≡ 0) × (accepted ≡ accepted) = orGo-accepted (first (refusalsAtEnd s)) i accepted e in
+      nothing (s .boxes) (no-refusal-at-end s (d .0) .0) h
+    where
+      nothing : (bs : List Box) → not (isEmpty bs) ≡ false → hasAt p (opensOf bs) ≡ true → ⊥
+      nothing [] e h = no (sym h)
+      nothing (b ∷ bs) e h = no e
+
+  closed-later : (p i : ℕ) (s : State) (xs : List Item) → walk k i s xs ≡ accepted → hasAt p (opensOf (s .boxes)) ≡ true
+      → isFound (closeFrom p i (opensOf (s .boxes)) xs) ≡ true
+  closed-later p i s [] e h = absurd (none-left i s p e h)
+  closed-later p i s (x ∷ xs) e h =
+      let d : (misplaced x (s .boxes) ≡ false) × (walk k (suc i) (after i s x) xs ≡ accepted) = one i s x xs e in
+      let o : opensOf (after i s x .boxes) ≡ scan i x (opensOf (s .boxes)) = same-open i s x (d .0) in
+      found-or (isClose x && belongs p x (opensOf (s .boxes))) i (closeFrom p (suc i) (scan i x (opensOf (s .boxes))) xs)
+      (λ n. subst (λ (st : List Open). isFound (closeFrom p (suc i) st xs) ≡ true) o
+      (closed-later p (suc i) (after i s x) xs (d .1)
+      (rw o (still p i x (opensOf (s .boxes)) (belongs-inner x (s .boxes) (d .0)) n h))))
+
+  -- an opening mark is followed by its closing mark
+  opened : (i : ℕ) (s : State) (x : Item) (xs : List Item) → walk k i s (x ∷ xs) ≡ accepted → isOpen x ≡ true
+      → isFound (closeFrom i i (opensOf (s .boxes)) (x ∷ xs)) ≡ true
+  opened i s (act a) xs e h = no (sym h)
+  opened i s (pack a) xs e h = no (sym h)
+  opened i s (opens a) xs e h = closed-later i (suc i) (after i s (opens a)) xs (one i s (opens a) xs e .1) (rw (eq-eqb i i refl))
+  opened i s (branch a) xs e h = no (sym h)
+  opened i s (closes a) xs e h = no (sym h)
+  opened i s breakloop xs e h = no (sym h)
+  opened i s tag xs e h = no (sym h)
+
+  -- ---- at any place of an accepted row that starts at item i in s
+
+  inner-at : (j i : ℕ) (s : State) (xs : List Item) → walk k i s xs ≡ accepted → j < length xs
+      → (isBranch (itemAt xs j) || isClose (itemAt xs j)) ≡ true → fitsTop (itemAt xs j) (scanAll i (opensOf (s .boxes)) (take j xs)) ≡ true
+  inner-at j i s [] e h m = absurd (not-suc-le-zero h)
+  inner-at zero i s (x ∷ xs) e h m = belongs-inner x (s .boxes) (one i s x xs e .0) m
+  inner-at (suc j) i s (x ∷ xs) e h m =
+      subst (λ (st : List Open). fitsTop (itemAt xs j) (scanAll (suc i) st (take j xs)) ≡ true) (same-open i s x (one i s x xs e .0))
+      (inner-at j (suc i) (after i s x) xs (one i s x xs e .1) (le-of-suc-le-suc h) m)
+
+  closing-at : (j i : ℕ) (s : State) (xs : List Item) → walk k i s xs ≡ accepted → j < length xs → isOpen (itemAt xs j) ≡ true
+      → isFound (closeFrom (j + i) (j + i) (scanAll i (opensOf (s .boxes)) (take j xs)) (drop j xs)) ≡ true
+  closing-at j i s [] e h m = absurd (not-suc-le-zero h)
+  closing-at zero i s (x ∷ xs) e h m = rw (zero-add i) (opened i s x xs e m)
+  closing-at (suc j) i s (x ∷ xs) e h m =
+      let z : suc j + i ≡ j + suc i = omega arith in
+      rw z (subst (λ (st : List Open). isFound (closeFrom (j + suc i) (j + suc i) (scanAll (suc i) st (take j xs)) (drop j xs)) ≡ true) (same-open i s x (one i s x xs e .0))
+      (closing-at j (suc i) (after i s x) xs (one i s x xs e .1) (le-of-suc-le-suc h) m))
+
+abbrev kinds : Script → Kinds
+kinds t = kindsOf (replicate 32 unknown) (itemsOf t)
+
+pub accepted-mated : (size : ℕ) (t : Script) → verdict size t ≡ accepted → Mated (itemsOf t)
+unfolding verdict
+accepted-mated size t e = record {
+  inner = λ i h m. inner-at (kinds t) i 0 begin (itemsOf t) walks h m;
+  closing = λ i h m. rw (add-zero i) at (closing-at (kinds t) i 0 begin (itemsOf t) walks h m);
+}
+  where
+    by-line : (v : Verdict) → atLine t v ≡ accepted → v ≡ accepted
+    by-line accepted e = refl
+    by-line (refused n i) e = cc
+
+    by-shape : (b : Bool) (v : Verdict) → cond b v (refused 30 0) ≡ accepted → v ≡ accepted
+    by-shape true v e = e
+    by-shape false v e = cc
+
+    walks : walked t ≡ accepted
+    walks = by-line (walked t) (by-shape (inShape size t) (atLine t (walked t)) e)

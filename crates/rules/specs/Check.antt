@@ -1,0 +1,175 @@
+-- The rules (01, The checker: 30 and 19 to 26) as one walk over the items in order. The state before an item is what `after` made of the
+-- items before it; each rule is a row, its number and its test, and the lowest that holds is given.
+use Prim.Native.Nat.{ℕ, zero, suc}
+use mathlib.Core.Bool.{Bool, true, false, not, _&&_, _||_, cond}
+use mathlib.Core.List.{List, [], _∷_}
+use lib.Dec.{eqb, ltb, leb}
+use lib.ListN.{length, set, replicate}
+use Rattle.rules.specs.Words.{Item, act, pack, opens, branch, closes, breakloop, tag, Branch, Script, Sort, ifBox, loopBox, sweepBox, Known, unknown, known, realKind, Give, like, float}
+use Rattle.table.specs.Item.{sortOf, isOpen, isBranch, isClose, isBreak, isTag, isElse, isLoop, isSweep, opensA, fits}
+use Rattle.table.specs.Uses.{Kinds, kindAt, kindIn, Names, has, uses, gives, actGives, headGives, wrong, wrongGive, missing, breaksOrder, packs, first}
+use Rattle.table.specs.Shape.{slotAt, itemsOf, inShape}
+pub use Rattle.rules.specs.declared.OpenBox.{OpenBox as Box}
+
+-- ---- sets of names
+
+abbrev pub nothing : Names
+nothing = replicate 32 false
+
+abbrev pub everything : Names
+everything = replicate 32 true
+
+abbrev pub both : Names → Names → Names
+both [] t = []
+both (a ∷ s) [] = []
+both (a ∷ s) (b ∷ t) = (a && b) ∷ both s t
+
+-- the names of the set and those that are written
+abbrev pub put : Names → List Give → Names
+put s [] = s
+put s (like n x ∷ gs) = put (set s n true) gs
+put s (float n ∷ gs) = put (set s n true) gs
+
+-- ---- kinds: that of the first writing in text order. Arithmetic writes a name with its own kind, a copy with its source's: none where that is unknown.
+
+abbrev pub orElse : Known → Known → Known
+orElse unknown k = k
+orElse (known j) k = known j
+
+abbrev pub learn : Kinds → List Give → Kinds
+learn k [] = k
+learn k (like n x ∷ gs) = learn (set k n (orElse (kindAt k n) (kindIn (kindAt k) x))) gs
+learn k (float n ∷ gs) = learn (set k n (orElse (kindAt k n) (known realKind))) gs
+
+abbrev pub kindsOf : Kinds → List Item → Kinds
+kindsOf k [] = k
+kindsOf k (x ∷ xs) = kindsOf (learn k (gives x)) xs
+
+-- ---- the state: what is surely written; the open boxes, innermost first; whether a package is open; whether the tag was seen.
+-- An open box: the item that opens it, its sort, what held before it, what holds at the end of every branch so far, and whether else was seen.
+
+pub record State : Type 0 where
+  pub sure : Names
+  pub boxes : List Box
+  pub packed : Bool
+  pub tagged : Bool
+
+abbrev pub begin : State
+begin = record { sure = nothing; boxes = []; packed = false; tagged = false }
+
+abbrev pub anyBox : (Sort → Bool) → List Box → Bool
+anyBox f [] = false
+anyBox f (b ∷ bs) = f (b .sort) || anyBox f bs
+
+abbrev pub isEmpty {ℓ} : {A : Type ℓ} → List A → Bool
+isEmpty [] = true
+isEmpty (x ∷ xs) = false
+
+-- ---- the tests
+
+-- what an item's reads are judged by: a branch condition by what held before its if
+abbrev pub baseOf : Bool → Names → List Box → Names
+baseOf false s bs = s
+baseOf true s [] = s
+baseOf true s (b ∷ bs) = cond (isLoop (b .sort)) s (b .before)
+
+abbrev pub base : State → Item → Names
+base s x = baseOf (isBranch x) (s .sure) (s .boxes)
+
+-- 21: a branch or closing mark without its box, a branch after else, breakloop in no loop
+abbrev pub misplaced : Item → List Box → Bool
+misplaced x [] = isBranch x || isClose x || isBreak x
+misplaced x (b ∷ bs) =
+    (isBranch x || isClose x) && not (fits x (b .sort))
+    || isBranch x && b .last
+    || isBreak x && not (anyBox isLoop (b ∷ bs))
+
+-- 25: the two floats of a point go to one name
+abbrev pub twice : List Give → Bool
+twice [] = false
+twice (like n x ∷ gs) = false
+twice (float n ∷ []) = false
+twice (float n ∷ like k x ∷ gs) = false
+twice (float n ∷ float k ∷ gs) = eqb n k
+
+abbrev pub refusals : Kinds → State → Item → List (ℕ × Bool)
+refusals k s x =
+    (19, wrong (kindAt k) (uses x) || wrongGive (kindAt k) (gives x))
+    ∷ (20, missing (has (base s x)) (uses x))
+    ∷ (21, misplaced x (s .boxes))
+    ∷ (22, isOpen x && leb 8 (length (s .boxes)))
+    ∷ (23, breaksOrder x (s .packed))
+    ∷ (24, isTag x && (s .tagged || not (isEmpty (s .boxes))))
+    ∷ (25, twice (gives x))
+    ∷ (26, opensA isSweep x && anyBox isSweep (s .boxes))
+    ∷ []
+
+-- at the end: a box open, a package open
+abbrev pub refusalsAtEnd : State → List (ℕ × Bool)
+refusalsAtEnd s = (21, not (isEmpty (s .boxes))) ∷ (23, s .packed) ∷ []
+
+-- ---- the state after an item
+
+-- after endif, what holds at the end of every branch, a missing else being an empty branch; after any loop, what held before it
+abbrev pub left : Sort → Box → Names → Names
+left ifBox b s = both (both (b .meet) s) (cond (b .last) everything (b .before))
+left loopBox b s = b .before
+left sweepBox b s = b .before
+
+-- each branch starts with what held before its if
+abbrev pub branched : Branch → State → List Box → State
+branched x s [] = s
+branched x s (b ∷ bs) = record {
+  sure = b .before;
+  boxes = record { at = b .at; sort = b .sort; before = b .before; meet = both (b .meet) (s .sure); last = isElse x } ∷ bs;
+  packed = s .packed;
+  tagged = s .tagged;
+}
+
+abbrev pub closed : State → List Box → State
+closed s [] = s
+closed s (b ∷ bs) = record { sure = left (b .sort) b (s .sure); boxes = bs; packed = s .packed; tagged = s .tagged }
+
+-- item i: a loop body starts with what held before it, plus both names for a measuring loop; at the tag nothing is surely written
+abbrev pub after : ℕ → State → Item → State
+after i s (act a) = record { sure = put (s .sure) (actGives a); boxes = s .boxes; packed = s .packed; tagged = s .tagged }
+after i s (pack p) = record { sure = s .sure; boxes = s .boxes; packed = packs p (s .packed); tagged = s .tagged }
+after i s (opens h) = record {
+  sure = put (s .sure) (headGives h);
+  boxes = record { at = i; sort = sortOf h; before = s .sure; meet = everything; last = false } ∷ s .boxes;
+  packed = s .packed;
+  tagged = s .tagged;
+}
+after i s (branch b) = branched b s (s .boxes)
+after i s (closes e) = closed s (s .boxes)
+after i s breakloop = s
+after i s tag = record { sure = nothing; boxes = s .boxes; packed = s .packed; tagged = true }
+
+-- ---- the verdict: accepted, or a refusal's number and place. The walk's place is the item's number, the count of items at the end.
+
+pub data Verdict : Type 0 where
+  accepted : Verdict
+  refused : ℕ → ℕ → Verdict
+
+abbrev pub orGo : ℕ → ℕ → Verdict → Verdict
+orGo zero i v = v
+orGo (suc n) i v = refused (suc n) i
+
+abbrev pub walk : Kinds → ℕ → State → List Item → Verdict
+walk k i s [] = orGo (first (refusalsAtEnd s)) i accepted
+walk k i s (x ∷ xs) = orGo (first (refusals k s x)) i (walk k (suc i) (after i s x) xs)
+
+-- the line of item i, or the ending line
+abbrev pub lineOf : Script → ℕ → ℕ
+lineOf t i = cond (ltb i (t .count)) (slotAt t i .line) (t .end)
+
+abbrev pub atLine : Script → Verdict → Verdict
+atLine t accepted = accepted
+atLine t (refused n i) = refused n (lineOf t i)
+
+abbrev pub walked : Script → Verdict
+walked t = walk (kindsOf (replicate 32 unknown) (itemsOf t)) 0 begin (itemsOf t)
+
+-- of a script of so many bytes
+unfoldable pub verdict : ℕ → Script → Verdict
+verdict size t = cond (inShape size t) (atLine t (walked t)) (refused 30 0)
