@@ -1,0 +1,47 @@
+-- The tests of a state's shape.
+use Prim.Native.Nat.{ℕ, zero, suc, _+_, _-_, _≤_, _<_}
+use mathlib.Core.Path.{_≡_, refl, sym, ap, _∙_}
+use mathlib.Core.Bool.{Bool, true, false, not, _&&_}
+use mathlib.Core.List.{List, [], _∷_}
+use native.Mathlib.Omega.{arith}
+use native.Mathlib.Numerals.{add-one}
+use lib.Dec.{ltb, leb}
+use lib.ListN.{length, getD, drop, drop-of-length-le}
+use lib.Seq.{drop-cons}
+use borrow.Author.Tests.{leb-true}
+use Rattle.table.specs.declared.Item.{Item}
+use Rattle.table.specs.declared.Script.{Script}
+use Rattle.table.specs.Shape.{inShape, itemsOf, itemsOk}
+use Rattle.machine.specs.Machine.{Run, unset, slotOk, slotsOk, opensOk, runOk}
+use Rattle.machine.specs.Meaning.{Var, slotsOf}
+use Rattle.machine.specs.Moves.{Stands}
+use Rattle.machine.proofs.Names.{noVar, slots-get, slots-length}
+
+pub slots-more : (vs : List Var) (i : ℕ) → i < length vs
+    → slotsOk (drop i (slotsOf vs)) ≡ (slotOk ((getD vs i noVar) .slot) && slotsOk (drop (i + 1) (slotsOf vs)))
+slots-more vs i h = rw (drop-cons (slotsOf vs) i unset (omega (arith, slots-length vs)), slots-get vs i, add-one)
+
+pub slots-end : (vs : List Var) (i : ℕ) → length vs ≤ i → slotsOk (drop i (slotsOf vs)) ≡ true
+slots-end vs i h = rw (drop-of-length-le (slotsOf vs) {i = i} (omega (arith, slots-length vs)))
+
+pub and-l : (a b : Bool) → (a && b) ≡ true → a ≡ true
+and-l true b e = refl
+and-l false b e = e
+
+pub and-r : (a b : Bool) → (a && b) ≡ true → b ≡ true
+and-r true b e = e
+and-r false b e = let z : _≡_ {A = ℕ} 0 1 = cc in absurd (omega arith)
+
+pub shape-stands : (xs : List Item) (m : Run) → length xs ≤ 128 → runOk xs m ≡ true → Stands m
+shape-stands xs m h e =
+    let a = and-l (leb (m .pc) (length xs) && leb (length (m .opened)) 8 && opensOk xs (m .opened)) (slotsOk (m .vars)) e in
+    let b = and-l (leb (m .pc) (length xs) && leb (length (m .opened)) 8) (opensOk xs (m .opened)) a in
+    record {
+      within = omega (arith, leb-true (m .pc) (length xs) (and-l (leb (m .pc) (length xs)) (leb (length (m .opened)) 8) b));
+      few = leb-true (length (m .opened)) 8 (and-r (leb (m .pc) (length xs)) (leb (length (m .opened)) 8) b);
+    }
+
+pub shape-count : (size : ℕ) (s : Script) → inShape size s ≡ true → s .count ≤ 128
+unfolding inShape
+shape-count size s e =
+    leb-true (s .count) 128 (and-l (leb (s .count) 128) (leb (s .names) 32) (and-l (leb (s .count) 128 && leb (s .names) 32) (itemsOk (s .names) size (itemsOf s)) e))

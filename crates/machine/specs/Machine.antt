@@ -1,0 +1,474 @@
+-- The machine (01): one step takes a control and an offer. The order within a step: 30; the answer of a run that has ended; the control; a
+-- pending abort; the faults 60 to 64, lowest first; the offer: waiting or 31; then 0028 and 0010.
+use Prim.Native.Nat.{ℕ, zero, suc, _+_, _*_}
+use mathlib.Core.Bool.{Bool, true, false, not, _&&_, _||_, cond}
+use mathlib.Core.List.{List, [], _∷_, _++_}
+use mathlib.Core.Option.{Option, none, some}
+use lib.Dec.{eqb, ltb, leb}
+use lib.ListN.{length, getD, set, replicate, drop}
+use lib.IntN.{pos}
+use lib.Ieee.{Float, nan}
+use Rattle.value.specs.declared.Value.{Value}
+use Rattle.value.specs.declared.Value.the-variants.{Whole as whole, Real as real}
+use Rattle.value.specs.declared.Calculated.{Calculated}
+use Rattle.value.specs.declared.Calculated.the-variants.{Value as got, ByZero as byZero, NotFinite as notFinite}
+use Rattle.value.specs.Arithmetic.{finite, calculated, checked, compares}
+use Rattle.table.specs.declared.Operand.{Operand}
+use Rattle.table.specs.declared.Operand.the-variants.{Name as name, Literal as literal}
+use Rattle.table.specs.declared.Condition.{Condition}
+use Rattle.table.specs.declared.Sweep.{Sweep}
+use Rattle.table.specs.declared.Text.{Text}
+use Rattle.table.specs.declared.Act.{Act}
+use Rattle.table.specs.declared.Act.the-variants.{Var as var, Store as store, Copy as copy, Calc as calc, Meas as meas, TimerGet as timerGet, SendString as sendString, Wait as wait, SetE as setE, SetMode as setMode, TimerStart as timerStart, CellOn as cellOn, CellOff as cellOff, Abort as abort}
+use Rattle.table.specs.declared.Pack.{Pack}
+use Rattle.table.specs.declared.Pack.the-variants.{Start as pckStart, Add as pckAdd, End as pckEnd}
+use Rattle.table.specs.declared.Head.{Head}
+use Rattle.table.specs.declared.Head.the-variants.{If as if', Loop as loop, Sweep as sweep}
+use Rattle.table.specs.declared.Branch.{Branch}
+use Rattle.table.specs.declared.Branch.the-variants.{ElseIf as elseif, Else as else}
+use Rattle.table.specs.declared.Close.{Close}
+use Rattle.table.specs.declared.Close.the-variants.{EndIf as endif, EndLoop as endloop}
+use Rattle.table.specs.declared.Item.{Item}
+use Rattle.table.specs.declared.Item.the-variants.{Act as act, Pack as pack, Open as opens, Branch as branch, Close as closes, Break as breakloop, Tag as tag}
+use Rattle.table.specs.declared.Sort.{Sort}
+use Rattle.table.specs.declared.Sort.the-variants.{Loop as loopBox, Sweep as sweepBox}
+use Rattle.table.specs.declared.Known.{Known}
+use Rattle.table.specs.declared.Known.the-variants.{Unknown as unknown, Of as known}
+use Rattle.table.specs.declared.Want.{Want}
+use Rattle.table.specs.declared.Give.{Give}
+use Rattle.table.specs.declared.Give.the-variants.{Like as like, Float as float}
+use Rattle.table.specs.declared.Script.{Script}
+use Rattle.table.specs.Item.{isOpen, isBranch, isClose, isBreak, isTag, isLoop, isSweep, opensA}
+use Rattle.table.specs.Uses.{uses, conditionUses, gives, kindOf, wrong, missing, breaksOrder, first}
+use Rattle.table.specs.Shape.{itemsOf, inShape}
+use Rattle.mates.specs.declared.Open.{Open}
+use Rattle.mates.specs.Mates.{scan, boxesAt, belongs, closeOf, itemAt, past}
+pub use Rattle.machine.specs.declared.Cell.{Cell}
+pub use Rattle.machine.specs.declared.Cell.the-variants.{Unwritten as unset, Holds as held}
+pub use Rattle.machine.specs.declared.Control.{Control}
+pub use Rattle.machine.specs.declared.Control.the-variants.{None as calm, Z, Y}
+pub use Rattle.machine.specs.declared.Offer.{Offer}
+pub use Rattle.machine.specs.declared.Offer.the-variants.{Nothing as nothing, Float as one, Point as point, Done as done}
+
+-- ---- the names: unwritten, or a value and its type
+
+abbrev pub Vars : Type 0
+Vars = List Cell
+
+abbrev pub slot : Vars → ℕ → Cell
+slot vs n = getD vs n unset
+
+abbrev pub isSet : Cell → Bool
+isSet unset = false
+isSet (held v t) = true
+
+abbrev pub slotKind : Cell → Known
+slotKind unset = unknown
+slotKind (held v t) = known (kindOf v)
+
+abbrev pub slotValue : Cell → Value
+slotValue unset = whole (pos 0)
+slotValue (held v t) = v
+
+abbrev pub slotType : Cell → ℕ
+slotType unset = 0
+slotType (held v t) = t
+
+abbrev pub written : Vars → ℕ → Bool
+written vs n = isSet (slot vs n)
+
+abbrev pub kindNow : Vars → ℕ → Known
+kindNow vs n = slotKind (slot vs n)
+
+abbrev pub valueOf : Vars → Operand → Value
+valueOf vs (name n) = slotValue (slot vs n)
+valueOf vs (literal l) = l
+
+abbrev pub holds : Vars → Condition → Bool
+holds vs c = compares (c .by) (valueOf vs (c .left)) (valueOf vs (c .right))
+
+abbrev pub write : Vars → ℕ → Value → ℕ → Vars
+write vs n v t = set vs n (held v t)
+
+-- the types da, ba and eb: the first letter times 256, and the second
+abbrev pub da : ℕ
+da = 100 * 256 + 97
+
+abbrev pub ba : ℕ
+ba = 98 * 256 + 97
+
+abbrev pub eb : ℕ
+eb = 101 * 256 + 98
+
+-- ---- the run
+
+-- running; finished; stopped by a code; or by a fault's number
+pub data Status : Type 0 where
+  live ended : Status
+  halted broken : ℕ → Status
+
+-- the codes 0028 and 0010, in hex
+abbrev pub zero28 : ℕ
+zero28 = 2 * 16 + 8
+
+abbrev pub over10 : ℕ
+over10 = 1 * 16 + 0
+
+-- opened: the places of the open boxes, innermost first
+pub record Run : Type 0 where
+  pub pc : ℕ
+  pub opened : List ℕ
+  pub vars : Vars
+  pub pending : Bool
+  pub skip : Bool
+  pub packed : Bool
+  pub status : Status
+
+-- what a step hands out: M0000 or L, * or +, a package's start, end or part (value and type), a text, an order; nought stands past the last
+pub data Out : Type 0 where
+  nought : Out
+  enters leaves : Sort → Out
+  packStart packEnd : Out
+  packPart : Value → ℕ → Out
+  says : Text → Out
+  waits setsE : Value → Out
+  setsMode : ℕ → Out
+  cell : Bool → Out
+
+-- stopped by a code, a fault by its number, refused by a number
+pub data Answer : Type 0 where
+  running waiting finished : Answer
+  stopped fault refuse : ℕ → Answer
+
+pub record Step : Type 0 where
+  pub answer : Answer
+  pub outs : List Out
+  pub next : Run
+
+abbrev pub fresh : Run
+fresh = record { pc = 0; opened = []; vars = replicate 32 unset; pending = false; skip = false; packed = false; status = live }
+
+-- the run at item i with the boxes ps open
+abbrev pub goto : Run → ℕ → List ℕ → Run
+goto m i ps = record { pc = i; opened = ps; vars = m .vars; pending = m .pending; skip = m .skip; packed = m .packed; status = m .status }
+
+abbrev pub keep : Run → Vars → Run
+keep m vs = record { pc = m .pc; opened = m .opened; vars = vs; pending = m .pending; skip = m .skip; packed = m .packed; status = m .status }
+
+-- the skip is dropped where a measuring loop is left
+abbrev pub unskip : Bool → Run → Run
+unskip b m = record { pc = m .pc; opened = m .opened; vars = m .vars; pending = m .pending; skip = m .skip && not b; packed = m .packed; status = m .status }
+
+abbrev pub end-with : Run → Status → Run
+end-with m s = record { pc = m .pc; opened = m .opened; vars = m .vars; pending = m .pending; skip = m .skip; packed = m .packed; status = s }
+
+abbrev pub packing : Run → Bool → Run
+packing m b = record { pc = m .pc; opened = m .opened; vars = m .vars; pending = m .pending; skip = m .skip; packed = b; status = m .status }
+
+abbrev pub pend : Run → Run
+pend m = record { pc = m .pc; opened = m .opened; vars = m .vars; pending = true; skip = m .skip; packed = m .packed; status = m .status }
+
+-- ---- the open boxes
+
+abbrev pub isEmpty : List ℕ → Bool
+isEmpty [] = true
+isEmpty (p ∷ ps) = false
+
+abbrev pub anyOpen : (Sort → Bool) → List Item → List ℕ → Bool
+anyOpen f xs [] = false
+anyOpen f xs (p ∷ ps) = opensA f (itemAt xs p) || anyOpen f xs ps
+
+-- from the innermost open loop outwards
+abbrev pub unwind : List Item → List ℕ → List ℕ
+unwind xs [] = []
+unwind xs (p ∷ ps) = let r = unwind xs ps in cond (opensA isLoop (itemAt xs p)) (p ∷ ps) r
+
+-- the boxes outside the loop item at i: its own box, where it is the innermost, is not one
+abbrev pub outside : ℕ → List ℕ → List ℕ
+outside i [] = []
+outside i (p ∷ ps) = cond (eqb p i) ps (p ∷ ps)
+
+abbrev pub inside : ℕ → List ℕ → Bool
+inside i [] = false
+inside i (p ∷ ps) = eqb p i
+
+-- the marks that leaving the boxes hands out, innermost first
+abbrev pub leaveOuts : List Item → List ℕ → List Out
+leaveOuts xs [] = []
+leaveOuts xs (p ∷ ps) = cond (opensA isSweep (itemAt xs p)) (leaves sweepBox ∷ leaveOuts xs ps) (cond (opensA isLoop (itemAt xs p)) (leaves loopBox ∷ leaveOuts xs ps) (leaveOuts xs ps))
+
+-- ---- faults
+
+abbrev pub isNone : Option ℕ → Bool
+isNone none = true
+isNone (some j) = false
+
+-- the mark x does not belong to the innermost open box
+abbrev pub strays : Item → List ℕ → List Open → Bool
+strays x [] st = true
+strays x (p ∷ ps) st = not (belongs p x st)
+
+-- an elseif that is reached after a taken branch reads nothing
+abbrev pub reads : Item → List Want
+reads x = cond (isBranch x) [] (uses x)
+
+abbrev pub readFaults : Vars → List Want → List (ℕ × Bool)
+readFaults vs ws = (60, missing (written vs) ws) ∷ (61, wrong (kindNow vs) ws) ∷ []
+
+abbrev pub faults : List Item → Run → Item → List (ℕ × Bool)
+faults xs m x =
+    (60, missing (written (m .vars)) (reads x))
+    ∷ (61, wrong (kindNow (m .vars)) (reads x))
+    ∷ (62, isOpen x && isNone (closeOf xs (m .pc)) || (isBranch x || isClose x) && strays x (m .opened) (boxesAt xs (m .pc)) || isBreak x && isEmpty (unwind xs (m .opened)))
+    ∷ (63, isOpen x && leb 8 (length (m .opened)) && not (opensA isLoop x && inside (m .pc) (m .opened)))
+    ∷ (64, breaksOrder x (m .packed))
+    ∷ []
+
+-- ---- one item
+
+abbrev pub said : List Out → Run → Step
+said os m = record { answer = running; outs = os; next = m }
+
+abbrev pub broke : ℕ → Run → Step
+broke n m = record { answer = fault n; outs = []; next = end-with m (broken n) }
+
+abbrev pub halt : ℕ → Run → Step
+halt s m = record { answer = stopped s; outs = []; next = end-with m (halted s) }
+
+abbrev pub next : Run → Run
+next m = goto m (suc (m .pc)) (m .opened)
+
+-- a result or a reading is kept, or the run stops and no name is changed
+abbrev pub kept : Run → ℕ → ℕ → Calculated → Step
+kept m n t (got v) = said [] (next (keep m (write (m .vars) n v t)))
+kept m n t byZero = halt zero28 m
+kept m n t notFinite = halt over10 m
+
+abbrev pub reading : Offer → Float
+reading nothing = nan
+reading (one x) = x
+reading (point p) = nan
+reading done = nan
+
+abbrev pub runAct : Run → Act → Offer → Step
+runAct m (var v) o = said [] (next m)
+runAct m (store v l t) o = said [] (next (keep m (write (m .vars) v l t)))
+runAct m (copy a b) o = said [] (next (keep m (set (m .vars) b (slot (m .vars) a))))
+runAct m (calc f v x) o = kept m v (slotType (slot (m .vars) v)) (calculated f (valueOf (m .vars) (name v)) (valueOf (m .vars) x))
+runAct m (meas f v t) o = kept m v t (checked (reading o))
+runAct m (timerGet v) o = kept m v eb (checked (reading o))
+runAct m (sendString t) o = said (says t ∷ []) (next m)
+runAct m (wait f) o = said (waits (valueOf (m .vars) f) ∷ []) (next m)
+runAct m (setE f) o = said (setsE (valueOf (m .vars) f) ∷ []) (next m)
+runAct m (setMode n) o = said (setsMode n ∷ []) (next m)
+runAct m timerStart o = said [] (next m)
+runAct m cellOn o = said (cell true ∷ []) (next m)
+runAct m cellOff o = said (cell false ∷ []) (next m)
+runAct m abort o = said [] (next (pend m))
+
+abbrev pub runPack : Run → Pack → Step
+runPack m pckStart = said (packStart ∷ []) (next (packing m true))
+runPack m pckEnd = said (packEnd ∷ []) (next (packing m false))
+runPack m (pckAdd v) = said (packPart (slotValue (slot (m .vars) v)) (slotType (slot (m .vars) v)) ∷ []) (next m)
+
+-- where a false condition leads: into a branch, past endif, or to a fault of the elseif tried
+pub data Chosen : Type 0 where
+  into beyond : ℕ → Chosen
+  bad : ℕ → Chosen
+
+abbrev pub orBad : ℕ → Chosen → Chosen
+orBad zero c = c
+orBad (suc n) c = bad (suc n)
+
+abbrev pub tried : Vars → Item → ℕ → Chosen → Chosen
+tried vs (branch (elseif c)) j r = orBad (first (readFaults vs (conditionUses c))) (cond (holds vs c) (into (suc j)) r)
+tried vs (branch else) j r = into (suc j)
+tried vs (closes e) j r = beyond (suc j)
+tried vs (act a) j r = r
+tried vs (pack p) j r = r
+tried vs (opens h) j r = r
+tried vs breakloop j r = r
+tried vs tag j r = r
+
+-- the mates of the box that opens at p, among the items from j on, tried in turn
+abbrev pub choose : Vars → ℕ → ℕ → List Open → List Item → Chosen
+choose vs p j st [] = bad 62
+choose vs p j st (x ∷ xs) = let r = choose vs p (suc j) (scan j x st) xs in cond (belongs p x st) (tried vs x j r) r
+
+abbrev pub chosen : Run → Chosen → Step
+chosen m (into i) = said [] (goto m i (m .pc ∷ m .opened))
+chosen m (beyond i) = said [] (goto m i (m .opened))
+chosen m (bad n) = broke n m
+
+-- the mark that a loop's first entering hands out
+abbrev pub enterOuts : Sort → Run → List Out
+enterOuts s m = cond (inside (m .pc) (m .opened)) [] (enters s ∷ [])
+
+abbrev pub enter : Sort → Run → Step
+enter s m = said (enterOuts s m) (goto m (suc (m .pc)) (m .pc ∷ outside (m .pc) (m .opened)))
+
+abbrev pub leave : List Item → Sort → Run → Step
+leave xs s m = said (enterOuts s m ++ (leaves s ∷ [])) (unskip (isSweep s) (goto m (past (closeOf xs (m .pc))) (outside (m .pc) (m .opened))))
+
+abbrev pub runPoint : Run → Sweep → Float → Float → Step
+runPoint m w x y = cond (finite (real x) && finite (real y)) (enter sweepBox (keep m (write (write (m .vars) (w .potential) (real x) da) (w .current) (real y) ba))) (halt over10 m)
+
+abbrev pub runSweep : List Item → Run → Sweep → Offer → Step
+runSweep xs m w (point p) = runPoint m w (p .potential) (p .current)
+runSweep xs m w done = leave xs sweepBox m
+runSweep xs m w nothing = leave xs sweepBox m
+runSweep xs m w (one x) = leave xs sweepBox m
+
+abbrev pub runHead : List Item → Run → Head → Offer → Step
+runHead xs m (if' c) o = cond (holds (m .vars) c) (said [] (goto m (suc (m .pc)) (m .pc ∷ m .opened))) (chosen m (choose (m .vars) (m .pc) (m .pc) (boxesAt xs (m .pc)) (drop (m .pc) xs)))
+runHead xs m (loop c) o = cond (holds (m .vars) c) (enter loopBox m) (leave xs loopBox m)
+runHead xs m (sweep w) o = runSweep xs m w o
+
+-- past the closing mark of the innermost box
+abbrev pub runBranch : List Item → Run → List ℕ → Step
+runBranch xs m [] = broke 62 m
+runBranch xs m (p ∷ ps) = said [] (goto m (past (closeOf xs p)) ps)
+
+abbrev pub runEndloop : List Item → Run → ℕ → List ℕ → Step
+runEndloop xs m p ps = cond (opensA isSweep (itemAt xs p) && (m .pending || m .skip)) (said (leaves sweepBox ∷ []) (unskip true (goto m (suc (m .pc)) ps))) (said [] (goto m p (p ∷ ps)))
+
+abbrev pub runClose : List Item → Run → Close → List ℕ → Step
+runClose xs m e [] = broke 62 m
+runClose xs m endif (p ∷ ps) = said [] (goto m (suc (m .pc)) ps)
+runClose xs m endloop (p ∷ ps) = runEndloop xs m p ps
+
+abbrev pub runBreak : List Item → Run → List ℕ → Step
+runBreak xs m [] = broke 62 m
+runBreak xs m (p ∷ ps) = said (leaveOuts xs (p ∷ [])) (unskip (opensA isSweep (itemAt xs p)) (goto m (past (closeOf xs p)) ps))
+
+abbrev pub run : List Item → Run → Item → Offer → Step
+run xs m (act a) o = runAct m a o
+run xs m (pack p) o = runPack m p
+run xs m (opens h) o = runHead xs m h o
+run xs m (branch b) o = runBranch xs m (m .opened)
+run xs m (closes e) o = runClose xs m e (m .opened)
+run xs m breakloop o = runBreak xs m (unwind xs (m .opened))
+run xs m tag o = said [] (next m)
+
+-- ---- one step
+
+-- what an item wants, and whether the offer meets it
+pub data Meets : Type 0 where
+  ready short amiss : Meets
+
+abbrev pub quiet : Offer → Meets
+quiet nothing = ready
+quiet (one x) = amiss
+quiet (point p) = amiss
+quiet done = amiss
+
+abbrev pub asksOne : Offer → Meets
+asksOne nothing = short
+asksOne (one x) = ready
+asksOne (point p) = amiss
+asksOne done = amiss
+
+abbrev pub asksPoint : Offer → Meets
+asksPoint nothing = short
+asksPoint (one x) = amiss
+asksPoint (point p) = ready
+asksPoint done = ready
+
+-- a float that an item writes comes with the offer: one for meas and timer_get, two in a point
+abbrev pub meets : List Give → Offer → Meets
+meets [] o = quiet o
+meets (like n x ∷ gs) o = quiet o
+meets (float n ∷ []) o = asksOne o
+meets (float n ∷ g ∷ gs) o = asksPoint o
+
+-- the state before the step is kept by a refusal; what the control made of it by a wait
+abbrev pub served : Run → Run → Meets → Step → Step
+served m₀ m ready s = s
+served m₀ m short s = record { answer = waiting; outs = []; next = m }
+served m₀ m amiss s = record { answer = refuse 31; outs = []; next = m₀ }
+
+abbrev pub orFault : ℕ → Run → Step → Step
+orFault zero m s = s
+orFault (suc n) m s = broke (suc n) m
+
+abbrev pub finish : Run → Run → Offer → List Out → Step
+finish m₀ m o os = served m₀ m (quiet o) (record { answer = finished; outs = os; next = end-with m ended })
+
+abbrev pub atEnd : Run → Run → Offer → Step
+atEnd m₀ m o = orFault (first ((62, not (isEmpty (m .opened))) ∷ (64, m .packed) ∷ [])) m (finish m₀ m o [])
+
+-- the fault of the mates that a false condition tries, 0 where there is none
+abbrev pub badOf : Chosen → ℕ
+badOf (into i) = 0
+badOf (beyond i) = 0
+badOf (bad n) = n
+
+abbrev pub tries : List Item → Run → Item → ℕ
+tries xs m (act a) = 0
+tries xs m (pack p) = 0
+tries xs m (opens (if' c)) = cond (holds (m .vars) c) 0 (badOf (choose (m .vars) (m .pc) (m .pc) (boxesAt xs (m .pc)) (drop (m .pc) xs)))
+tries xs m (opens (loop c)) = 0
+tries xs m (opens (sweep w)) = 0
+tries xs m (branch b) = 0
+tries xs m (closes e) = 0
+tries xs m breakloop = 0
+tries xs m tag = 0
+
+-- m₀ before the step, m with the control
+abbrev pub atItem : List Item → Run → Run → Offer → List Item → Step
+atItem xs m₀ m o [] = atEnd m₀ m o
+atItem xs m₀ m o (x ∷ rest) = orFault (first (faults xs m x)) m (orFault (tries xs m x) m (served m₀ m (meets (gives x) o) (run xs m x o)))
+
+-- Z asks for an abort; Y, inside a measuring loop, for a skip
+abbrev pub told : List Item → Run → Control → Run
+told xs m calm = m
+told xs m Z = pend m
+told xs m Y = record { pc = m .pc; opened = m .opened; vars = m .vars; pending = m .pending; skip = m .skip || anyOpen isSweep xs (m .opened); packed = m .packed; status = m .status }
+
+-- the first tag from item i on
+abbrev pub tagFrom : ℕ → List Item → Option ℕ
+tagFrom i [] = none
+tagFrom i (x ∷ xs) = let r = tagFrom (suc i) xs in cond (isTag x) (some i) r
+
+-- all boxes closed, at item i
+abbrev pub cleared : Run → ℕ → Run
+cleared m i = record { pc = i; opened = []; vars = m .vars; pending = false; skip = false; packed = m .packed; status = m .status }
+
+-- the tag itself does nothing, and with no box and no package open it has no fault
+abbrev pub aborted : List Item → Run → Run → Offer → Option ℕ → Step
+aborted xs m₀ m o none = finish m₀ (cleared m (m .pc)) o (leaveOuts xs (m .opened))
+aborted xs m₀ m o (some i) = cond (ltb i (m .pc)) (finish m₀ (cleared m (m .pc)) o (leaveOuts xs (m .opened))) (served m₀ (cleared m i) (quiet o) (said (leaveOuts xs (m .opened)) (next (cleared m i))))
+
+abbrev pub moved : List Item → Run → Run → Offer → Step
+moved xs m₀ m o = cond (m .pending && not (anyOpen isSweep xs (m .opened)) && not (m .packed)) (aborted xs m₀ m o (tagFrom 0 xs)) (atItem xs m₀ m o (drop (m .pc) xs))
+
+abbrev pub again : Status → Run → Step → Step
+again live m s = s
+again ended m s = record { answer = finished; outs = []; next = m }
+again (halted c) m s = record { answer = stopped c; outs = []; next = m }
+again (broken n) m s = record { answer = fault n; outs = []; next = m }
+
+-- ---- the state's shape
+
+abbrev pub slotOk : Cell → Bool
+slotOk unset = true
+slotOk (held v t) = finite v
+
+abbrev pub slotsOk : Vars → Bool
+slotsOk [] = true
+slotsOk (v ∷ vs) = slotOk v && slotsOk vs
+
+abbrev pub opensOk : List Item → List ℕ → Bool
+opensOk xs [] = true
+opensOk xs (p ∷ ps) = ltb p (length xs) && isOpen (itemAt xs p) && not (isNone (closeOf xs p)) && opensOk xs ps
+
+-- the item number at most the item count, at most 8 open boxes each at an opening item with a closing mate, every written float finite
+abbrev pub runOk : List Item → Run → Bool
+runOk xs m = leb (m .pc) (length xs) && leb (length (m .opened)) 8 && opensOk xs (m .opened) && slotsOk (m .vars)
+
+abbrev pub shapeless : Run → Step
+shapeless m = record { answer = refuse 30; outs = []; next = m }
+
+-- the length of the script's bytes, the table, the state, the control and the offer
+unfoldable pub step : ℕ → Script → Run → Control → Offer → Step
+step size s m c o = cond (inShape size s && runOk (itemsOf s) m) (again (m .status) m (moved (itemsOf s) m (told (itemsOf s) m c) o)) (shapeless m)
