@@ -1,0 +1,107 @@
+-- Small laws that the proofs share.
+use Prim.Native.Nat.{ℕ, zero, suc}
+use mathlib.Core.Path.{_≡_, refl, sym, ap, _∙_, subst}
+use mathlib.Core.Logic.{_⊎_, inl, inr}
+use mathlib.Core.Bool.{Bool, true, false, not, _&&_, _||_, cond}
+use mathlib.Core.List.{List, [], _∷_}
+use native.Mathlib.Omega.{arith}
+use lib.Dec.{T}
+use lib.ListN.{getD, set, replicate, drop}
+use Rattle.table.specs.Uses.{Names, has}
+use Rattle.rules.specs.Check.{nothing, both}
+
+pub no : {X : Type 0} → true ≡ false → X
+no e = absurd (subst T e tt)
+
+pub no′ : {X : Type 0} → false ≡ true → X
+no′ e = no (sym e)
+
+pub or-l : (a b : Bool) → (a || b) ≡ false → a ≡ false
+or-l true b e = e
+or-l false b e = refl
+
+pub or-r : (a b : Bool) → (a || b) ≡ false → b ≡ false
+or-r true b e = no e
+or-r false b e = e
+
+pub or-f : {a b : Bool} → a ≡ false → b ≡ false → (a || b) ≡ false
+or-f {a} {b} p q = rw p q
+
+pub and-l : (a b : Bool) → (a && b) ≡ true → a ≡ true
+and-l true b e = refl
+and-l false b e = e
+
+pub and-r : (a b : Bool) → (a && b) ≡ true → b ≡ true
+and-r true b e = e
+and-r false b e = no′ e
+
+pub and-t : {a b : Bool} → a ≡ true → b ≡ true → (a && b) ≡ true
+and-t {a} {b} p q = rw p q
+
+pub not-f : (a : Bool) → not a ≡ false → a ≡ true
+not-f true e = refl
+not-f false e = sym e
+
+pub not-t : (a : Bool) → not a ≡ true → a ≡ false
+not-t true e = sym e
+not-t false e = refl
+
+-- the first of a row of tests says false, and so do the others
+pub skip : (n : ℕ) (b : Bool) (r : ℕ) → cond b (suc n) r ≡ 0 → (b ≡ false) × (r ≡ 0)
+skip n true r e = absurd (suc≢0 e)
+  where
+    suc≢0 : {m : ℕ} → suc m ≡ 0 → ⊥
+    suc≢0 p = omega arith
+skip n false r e = (refl, e)
+
+module _ {A : Type 0} where
+  -- what is read at n after v was set at i: v, or what was there
+  abbrev pub AfterSet : List A → ℕ → A → ℕ → A → Type 0
+  AfterSet l i v n d = ((n ≡ i) × (getD (set l i v) n d ≡ v)) ⊎ (getD (set l i v) n d ≡ getD l n d)
+
+  pub getD-set : (l : List A) (i : ℕ) (v : A) (n : ℕ) (d : A) → AfterSet l i v n d
+  getD-set [] i v n d = inr refl
+  getD-set (x ∷ xs) zero v zero d = inl (refl, refl)
+  getD-set (x ∷ xs) zero v (suc n) d = inr refl
+  getD-set (x ∷ xs) (suc i) v zero d = inr refl
+  getD-set (x ∷ xs) (suc i) v (suc n) d = go (getD-set xs i v n d)
+    where
+      go : AfterSet xs i v n d → AfterSet (x ∷ xs) (suc i) v (suc n) d
+      go (inl p) = inl (ap suc (p .0), p .1)
+      go (inr p) = inr p
+
+  pub getD-rep : (m n : ℕ) (a : A) → getD (replicate m a) n a ≡ a
+  getD-rep zero n a = refl
+  getD-rep (suc m) zero a = refl
+  getD-rep (suc m) (suc n) a = getD-rep m n a
+
+  pub drop-step : (i : ℕ) (l : List A) (x : A) (xs : List A) → drop i l ≡ x ∷ xs → drop (suc i) l ≡ xs
+  drop-step zero [] x xs e = cc
+  drop-step zero (y ∷ l) x xs e = cc
+  drop-step (suc i) [] x xs e = cc
+  drop-step (suc i) (y ∷ l) x xs e = drop-step i l x xs e
+
+  pub drop-getD : (i : ℕ) (l : List A) (d x : A) (xs : List A) → drop i l ≡ x ∷ xs → getD l i d ≡ x
+  drop-getD zero [] d x xs e = cc
+  drop-getD zero (y ∷ l) d x xs e = cc
+  drop-getD (suc i) [] d x xs e = cc
+  drop-getD (suc i) (y ∷ l) d x xs e = drop-getD i l d x xs e
+
+-- ---- sets
+abbrev pub Sub : Names → Names → Type 0
+Sub s t = (n : ℕ) → has s n ≡ true → has t n ≡ true
+
+pub both-l : (s t : Names) → Sub (both s t) s
+both-l [] t n e = e
+both-l (a ∷ s) [] n e = no′ e
+both-l (a ∷ s) (b ∷ t) zero e = and-l a b e
+both-l (a ∷ s) (b ∷ t) (suc n) e = both-l s t n e
+
+pub both-r : (s t : Names) → Sub (both s t) t
+both-r [] t n e = no′ e
+both-r (a ∷ s) [] n e = no′ e
+both-r (a ∷ s) (b ∷ t) zero e = and-r a b e
+both-r (a ∷ s) (b ∷ t) (suc n) e = both-r s t n e
+
+pub not-nothing : {X : Type 0} (n : ℕ) → has nothing n ≡ true → X
+not-nothing n e = no (sym e ∙ getD-rep 32 n false)

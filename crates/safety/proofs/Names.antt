@@ -1,0 +1,149 @@
+-- The names of a run: written where the checker was sure of it, each of its kind in the text, and finite.
+use Prim.Native.Nat.{ℕ, suc, _<_}
+use mathlib.Core.Path.{_≡_, refl, sym, ap, _∙_}
+use mathlib.Core.Logic.{inl, inr}
+use mathlib.Core.Bool.{true, false}
+use mathlib.Core.List.{List, [], _∷_}
+use native.Mathlib.Omega.{arith}
+use lib.ListN.{length, set, replicate, length-set}
+use lib.Seq.{getD-set-same}
+use Rattle.table.specs.declared.Operand.{Operand}
+use Rattle.table.specs.declared.Operand.the-variants.{Name as name, Literal as literal}
+use Rattle.table.specs.declared.Kind.{Kind}
+use Rattle.table.specs.declared.Kind.the-variants.{Whole as wholeKind, Real as realKind}
+use Rattle.table.specs.declared.Known.{Known}
+use Rattle.table.specs.declared.Known.the-variants.{Unknown as unknown, Of as known}
+use Rattle.table.specs.declared.Want.{Want}
+use Rattle.table.specs.declared.Want.the-variants.{Any as any, Alike as alike, Float as floats}
+use Rattle.table.specs.Uses.{kindOf, alikeKind, differ, Kinds, kindAt, kindIn, wrong, Names, has, gone, missing}
+use Rattle.rules.specs.declared.OpenBox.{OpenBox as Box}
+use Rattle.machine.specs.declared.Cell.{Cell}
+use Rattle.machine.specs.declared.Cell.the-variants.{Unwritten as unset, Holds as held}
+use Rattle.machine.specs.Machine.{Vars, slot, isSet, slotKind, slotValue, written, kindNow, slotOk, slotsOk}
+use Rattle.safety.proofs.Laws.{no′, or-l, or-r, or-f, not-f, AfterSet, getD-set, getD-rep}
+use Rattle.safety.proofs.Sure.{isKnown, Within}
+
+-- the names of the set are written
+abbrev pub Covers : Names → Vars → Type 0
+Covers su vs = (n : ℕ) → has su n ≡ true → written vs n ≡ true
+
+-- and what held before each open box
+abbrev pub AllCover : List Box → Vars → Type 0
+AllCover [] vs = Unit {0}
+AllCover (b ∷ bs) vs = Covers (b .before) vs × AllCover bs vs
+
+-- every written name has its own kind, and its float is finite
+pub record VarsOk (k : Kinds) (vs : Vars) : Type 0 where
+  pub len : length vs ≡ 32
+  pub agree : (n : ℕ) → differ (kindAt k n) (kindNow vs n) ≡ false
+  pub fine : (n : ℕ) → slotOk (slot vs n) ≡ true
+
+pub fresh-vars : (k : Kinds) → VarsOk k (replicate 32 unset)
+fresh-vars k = record { len = refl; agree = agrees; fine = fines }
+  where
+    none-differs : (j : Known) → differ j unknown ≡ false
+    none-differs unknown = refl
+    none-differs (known j) = refl
+
+    agrees : (n : ℕ) → differ (kindAt k n) (kindNow (replicate 32 unset) n) ≡ false
+    agrees n = rw (getD-rep 32 n unset) (none-differs (kindAt k n))
+
+    fines : (n : ℕ) → slotOk (slot (replicate 32 unset) n) ≡ true
+    fines n = rw (getD-rep 32 n unset)
+
+pub slots-ok : (vs : Vars) → ((n : ℕ) → slotOk (slot vs n) ≡ true) → slotsOk vs ≡ true
+slots-ok [] f = refl
+slots-ok (v ∷ vs) f = rw (f 0) (slots-ok vs (λ n. f (suc n)))
+
+-- ---- writing a name
+
+module _ (vs : Vars) (v : ℕ) (w : Cell) where
+  pub set-vars : {k : Kinds} → VarsOk k vs → slotOk w ≡ true → differ (kindAt k v) (slotKind w) ≡ false → VarsOk k (set vs v w)
+  set-vars {k} o f d = record {
+    len = length-set vs v w ∙ o .len;
+    agree = λ n. agrees n (getD-set vs v w n unset);
+    fine = λ n. fines n (getD-set vs v w n unset);
+  }
+    where
+      agrees : (n : ℕ) → AfterSet vs v w n unset → differ (kindAt k n) (kindNow (set vs v w) n) ≡ false
+      agrees n (inl q) = rw (q .1, q .0) d
+      agrees n (inr q) = rw q (o .agree n)
+
+      fines : (n : ℕ) → AfterSet vs v w n unset → slotOk (slot (set vs v w) n) ≡ true
+      fines n (inl q) = rw (q .1) f
+      fines n (inr q) = rw q (o .fine n)
+
+  pub written-up : (n : ℕ) → isSet w ≡ true → written vs n ≡ true → written (set vs v w) n ≡ true
+  written-up n e h = go (getD-set vs v w n unset)
+    where
+      go : AfterSet vs v w n unset → written (set vs v w) n ≡ true
+      go (inl q) = rw (q .1) e
+      go (inr q) = rw q h
+
+  pub all-cover-up : (l : List Box) → isSet w ≡ true → AllCover l vs → AllCover l (set vs v w)
+  all-cover-up [] e h = tt
+  all-cover-up (b ∷ bs) e h = (λ n q. written-up n e (h .0 n q), all-cover-up bs e (h .1))
+
+  pub cover-set : (su : Names) → length vs ≡ 32 → v < 32 → isSet w ≡ true → Covers su vs → Covers (set su v true) (set vs v w)
+  cover-set su l u e c n h = go (getD-set su v true n false)
+    where
+      go : AfterSet su v true n false → written (set vs v w) n ≡ true
+      go (inl q) = rw (q .0, getD-set-same vs v w unset (omega arith)) e
+      go (inr q) = written-up n e (c n (sym q ∙ h))
+
+-- ---- reading a name: what the checker knows of it is so
+
+alike-eq : (j k : Kind) → alikeKind j k ≡ true → j ≡ k
+alike-eq wholeKind wholeKind h = refl
+alike-eq wholeKind realKind h = no′ h
+alike-eq realKind wholeKind h = no′ h
+alike-eq realKind realKind h = refl
+
+same-kind : (a b : Known) → isKnown a ≡ true → isKnown b ≡ true → differ a b ≡ false → b ≡ a
+same-kind unknown b p q h = no′ p
+same-kind (known j) unknown p q h = no′ q
+same-kind (known j) (known k) p q h = ap known (sym (alike-eq j k (not-f (alikeKind j k) h)))
+
+known-slot : (w : Cell) → isSet w ≡ true → isKnown (slotKind w) ≡ true
+known-slot unset h = h
+known-slot (held v t) h = refl
+
+pub slot-kind : (w : Cell) → isSet w ≡ true → slotKind w ≡ known (kindOf (slotValue w))
+slot-kind unset h = no′ h
+slot-kind (held v t) h = refl
+
+-- what the checker knows of the names holds of the run: those of su are written and have a kind
+pub record Knows (k : Kinds) (su : Names) (vs : Vars) : Type 0 where
+  pub cover : Covers su vs
+  pub kinds : Within su k
+  pub vars : VarsOk k vs
+
+module _ {k : Kinds} {su : Names} {vs : Vars} (a : Knows k su vs) where
+  pub kind-now : (n : ℕ) → has su n ≡ true → kindNow vs n ≡ kindAt k n
+  kind-now n h = same-kind (kindAt k n) (kindNow vs n) (a .kinds n h) (known-slot (slot vs n) (a .cover n h)) (a .vars .agree n)
+
+  here-now : (x : Operand) → gone (has su) x ≡ false → gone (written vs) x ≡ false
+  here-now (name n) h = rw (a .cover n (not-f (has su n) h))
+  here-now (literal l) h = refl
+
+  kind-in : (x : Operand) → gone (has su) x ≡ false → kindIn (kindNow vs) x ≡ kindIn (kindAt k) x
+  kind-in (name n) h = kind-now n (not-f (has su n) h)
+  kind-in (literal l) h = refl
+
+  -- no name is missing that the checker was sure of
+  pub there-now : (ws : List Want) → missing (has su) ws ≡ false → missing (written vs) ws ≡ false
+  there-now [] h = refl
+  there-now (any x ∷ ws) h = or-f (there-now ws (or-l _ _ h)) (here-now x (or-r (missing (has su) ws) _ h))
+  there-now (alike x y ∷ ws) h =
+      let b = or-r (missing (has su) ws) _ h in
+      or-f (there-now ws (or-l _ _ h)) (or-f (here-now x (or-l _ _ b)) (here-now y (or-r (gone (has su) x) _ b)))
+  there-now (floats x ∷ ws) h = or-f (there-now ws (or-l _ _ h)) (here-now x (or-r (missing (has su) ws) _ h))
+
+  -- and the kinds that meet are those of the text
+  pub wrong-now : (ws : List Want) → missing (has su) ws ≡ false → wrong (kindNow vs) ws ≡ wrong (kindAt k) ws
+  wrong-now [] h = refl
+  wrong-now (any x ∷ ws) h = wrong-now ws (or-l _ _ h)
+  wrong-now (alike x y ∷ ws) h =
+      let b = or-r (missing (has su) ws) _ h in
+      rw (wrong-now ws (or-l _ _ h), kind-in x (or-l _ _ b), kind-in y (or-r (gone (has su) x) _ b))
+  wrong-now (floats x ∷ ws) h = rw (wrong-now ws (or-l _ _ h), kind-in x (or-r (missing (has su) ws) _ h))

@@ -1,0 +1,128 @@
+-- The checker accepts a text with every command, every box and the tag; two runs of it, step by step.
+use Prim.Native.Nat.{ℕ}
+use mathlib.Core.Path.{_≡_, refl}
+use mathlib.Core.Bool.{true, false}
+use mathlib.Core.List.{List, [], _∷_, _++_}
+use lib.IntN.{pos}
+use lib.Ieee.{Float, nan}
+use lib.ListN.{length, replicate}
+use Rattle.value.specs.declared.Value.the-variants.{Real as real}
+use Rattle.value.specs.Literal.{plain, over}
+use Rattle.table.specs.declared.Script.{Script}
+use Rattle.table.specs.declared.Sort.the-variants.{Loop as loopBox, Sweep as sweepBox}
+use Rattle.script.specs.Load.{loaded}
+use Rattle.rules.specs.Check.{accepted, verdict}
+use Rattle.machine.specs.declared.Control.{Control}
+use Rattle.machine.specs.declared.Control.the-variants.{None as calm, Z, Y}
+use Rattle.machine.specs.declared.Offer.{Offer}
+use Rattle.machine.specs.declared.Offer.the-variants.{Nothing as no-offer, Float as one, Point as point, Done as done}
+use Rattle.machine.specs.Machine.{da, ba, over10, Run, Out, enters, leaves, packStart, packEnd, packPart, says, waits, setsE, setsMode, cell, Answer, running, waiting, finished, stopped, refuse, fresh, step}
+use Rattle.safety.specs.Texts.{night}
+use Rattle.safety.proofs.Opened.{all}
+
+-- a step: the control, the offer, the answer, and what is handed out
+abbrev Entry : Type 0
+Entry = Control × Offer × Answer × List Out
+
+-- the steps of a run, told and offered as the entries say
+unfoldable pub log : ℕ → Script → Run → List Entry → List Entry
+log size t m [] = []
+log size t m (e ∷ es) = let s = step size t m (e .0) (e .1) in (e .0, e .1, s .answer, s .outs) ∷ log size t (s .next) es
+
+abbrev goes : List Out → Entry
+goes os = (calm, no-offer, running, os)
+
+-- the float that a whole number is
+abbrev volts : ℕ → Float
+volts n = plain (pos n)
+
+abbrev at : ℕ → ℕ → Offer
+at x y = point (record { potential = volts x; current = volts y })
+
+abbrev packed : ℕ → ℕ → List Entry
+packed x y = goes (packStart ∷ []) ∷ goes (packPart (real (volts x)) da ∷ []) ∷ goes (packPart (real (volts y)) ba ∷ []) ∷ goes (packEnd ∷ []) ∷ []
+
+-- up to the first measuring loop
+abbrev settle : List Entry
+settle =
+    replicate 5 (goes [])
+    ++ goes (setsMode 2 ∷ [])
+    ∷ goes (cell true ∷ [])
+    ∷ goes (says (record { start = 93; end = 97 }) ∷ [])
+    ∷ replicate 7 (goes [])
+    ++ goes (waits (real (over (pos 100) 3)) ∷ [])
+    ∷ goes (setsE (real (volts 0)) ∷ [])
+    ∷ []
+
+abbrev whole-run : List Entry
+whole-run =
+    settle
+    -- a float where a point or done is wanted: refused; nothing: a wait; a point enters
+    ++ (calm, one (volts 1), refuse 31, [])
+    ∷ (calm, no-offer, waiting, [])
+    ∷ (calm, at 1 2, running, enters sweepBox ∷ [])
+    ∷ packed 1 2
+    ++ goes []
+    -- the second point, and a skip in its package: the sweep is left at its endloop
+    ∷ (calm, at 3 4, running, [])
+    ∷ (Y, no-offer, running, packStart ∷ [])
+    ∷ goes (packPart (real (volts 3)) da ∷ [])
+    ∷ goes (packPart (real (volts 4)) ba ∷ [])
+    ∷ goes (packEnd ∷ [])
+    ∷ goes (leaves sweepBox ∷ [])
+    -- the loop, once by its if and once by its elseif, which breaks
+    ∷ goes (enters loopBox ∷ [])
+    ∷ goes []
+    ∷ goes []
+    ∷ goes (waits (real (volts 1)) ∷ [])
+    ∷ goes []
+    ∷ goes []
+    ∷ goes []
+    ∷ goes []
+    ∷ goes []
+    ∷ goes (leaves loopBox ∷ [])
+    -- two readings, an empty sweep, the abort, the tag, the end; a finished run repeats its answer
+    ∷ (calm, one (volts 5), running, [])
+    ∷ (calm, one (volts 6), running, [])
+    ∷ (calm, done, running, enters sweepBox ∷ leaves sweepBox ∷ [])
+    ∷ goes []
+    ∷ goes []
+    ∷ goes (cell false ∷ [])
+    ∷ (calm, no-offer, finished, [])
+    ∷ (Z, at 1 2, finished, [])
+    ∷ []
+
+-- the loop is entered, and a Z closes it and leads to the tag
+abbrev aborted-run : List Entry
+aborted-run =
+    settle
+    ++ (calm, done, running, enters sweepBox ∷ leaves sweepBox ∷ [])
+    ∷ goes (enters loopBox ∷ [])
+    ∷ (Z, no-offer, running, leaves loopBox ∷ [])
+    ∷ goes (cell false ∷ [])
+    ∷ (calm, no-offer, finished, [])
+    ∷ []
+
+-- a point that is not a number stops the run with 0010
+abbrev stopped-run : List Entry
+stopped-run =
+    settle
+    ++ (calm, point (record { potential = volts 1; current = nan }), stopped over10, [])
+    ∷ (Z, done, stopped over10, [])
+    ∷ []
+
+pub night-accepted : ((loaded night) .number ≡ 0) × (verdict (length night) ((loaded night) .table) ≡ accepted)
+unfolding all
+night-accepted = (refl, refl)
+
+pub night-runs : log (length night) ((loaded night) .table) fresh whole-run ≡ whole-run
+unfolding all log
+night-runs = refl
+
+pub night-aborts : log (length night) ((loaded night) .table) fresh aborted-run ≡ aborted-run
+unfolding all log
+night-aborts = refl
+
+pub night-stops : log (length night) ((loaded night) .table) fresh stopped-run ≡ stopped-run
+unfolding all log
+night-stops = refl

@@ -1,0 +1,150 @@
+-- At no item of an accepted script has the machine a fault: 60 to 64, tested before the offer.
+use Prim.Native.Nat.{ℕ, suc}
+use mathlib.Core.Path.{_≡_, refl, _∙_}
+use mathlib.Core.Logic.{inl, inr}
+use mathlib.Core.Bool.{Bool, true, false, not, _&&_, _||_, cond}
+use mathlib.Core.List.{List, [], _∷_}
+use lib.Dec.{leb}
+use lib.ListN.{length, drop}
+use borrow.Author.Tests.{eq-eqb}
+use Rattle.table.specs.declared.Condition.{Condition}
+use Rattle.table.specs.declared.Head.the-variants.{If as if', Loop as loop, Sweep as sweep}
+use Rattle.table.specs.declared.Item.{Item}
+use Rattle.table.specs.declared.Item.the-variants.{Act as act, Pack as pack, Open as opens, Branch as branch, Close as closes, Break as breakloop, Tag as tag}
+use Rattle.table.specs.declared.Want.{Want}
+use Rattle.table.specs.Item.{isOpen, isBranch, isClose, isBreak, isLoop, opensA, fits}
+use Rattle.table.specs.Uses.{actUses, uses, Kinds, wrong, Names, missing, first}
+use Rattle.mates.specs.declared.Open.{Open}
+use Rattle.mates.specs.Mates.{boxesAt, closeOf, itemAt}
+use Rattle.rules.specs.declared.OpenBox.{OpenBox as Box}
+use Rattle.rules.specs.Check.{State, anyBox}
+use Rattle.machine.specs.Machine.{Vars, written, kindNow, holds, Run, isEmpty as noneOpen, unwind, inside, isNone, strays, reads, faults, Chosen, choose, badOf, tries}
+use Rattle.safety.proofs.Laws.{no, no′, not-f, drop-getD}
+use Rattle.safety.proofs.Walk.{textKinds, Accepted, more, Clean, closes-fits, branch-fits, clean}
+use Rattle.safety.proofs.Boxes.{erase, Headed, Heads}
+use Rattle.safety.proofs.Static.{static}
+use Rattle.safety.proofs.Mates.{no-mark, Under, here, there, Picks, goes, passes, close-head, Readable, choose-good}
+use Rattle.safety.proofs.Names.{Knows, there-now, wrong-now}
+use Rattle.safety.proofs.Stands.{positions, length-positions, Opened, Here, not-again, knows}
+
+and-false : (a : Bool) → (a && false) ≡ false
+and-false true = refl
+and-false false = refl
+
+module _ {names size : ℕ} {items : List Item} (ok : Accepted names size items) where
+  -- ---- 60 and 61
+
+  pub readable : {su : Names} {vs : Vars} → Knows (textKinds items) su vs → Readable ok su vs
+  readable a ws e f = rw (there-now a ws e, wrong-now a ws e, f)
+
+  abbrev NoFault : List Want → Vars → Type 0
+  NoFault ws vs = (missing (written vs) ws ≡ false) × (wrong (kindNow vs) ws ≡ false)
+
+  -- the item x reads only what is written, and of the right kinds
+  reads-fine : (x : Item) {s : State} {vs : Vars} → Clean (textKinds items) s x → Knows (textKinds items) (s .sure) vs → NoFault (reads x) vs
+  reads-fine (act a) c n = (there-now n (actUses a) (c .there), wrong-now n (actUses a) (c .there) ∙ c .kinds)
+  reads-fine (pack p) c n = (there-now n (uses (pack p)) (c .there), wrong-now n (uses (pack p)) (c .there) ∙ c .kinds)
+  reads-fine (opens h) c n = (there-now n (uses (opens h)) (c .there), wrong-now n (uses (opens h)) (c .there) ∙ c .kinds)
+  reads-fine (branch b) c n = (refl, refl)
+  reads-fine (closes e) c n = (refl, refl)
+  reads-fine breakloop c n = (refl, refl)
+  reads-fine tag c n = (refl, refl)
+
+  -- ---- 62
+
+  -- an innermost open loop
+  pub record Loop (i : ℕ) (st : List Open) (xs : List Item) (tg : Bool) (l : List Box) : Type 0 where
+    pub b : Box
+    pub bs : List Box
+    pub under : Under b bs l
+    pub headed : Headed items i st xs tg b bs
+    pub loops : isLoop (b .sort) ≡ true
+    pub found : unwind items (positions l) ≡ b .at ∷ positions bs
+
+  pub find-loop : (i : ℕ) (st : List Open) (xs : List Item) (tg : Bool) (l : List Box) → Heads items i st xs tg l → anyBox isLoop l ≡ true → Loop i st xs tg l
+  find-loop i st xs tg [] h a = no′ a
+  find-loop i st xs tg (b ∷ bs) h a = go (isLoop (b .sort)) refl (λ q. find-loop i st xs tg bs (h .1) q)
+    where
+      item : opensA isLoop (itemAt items (b .at)) ≡ isLoop (b .sort)
+      item = rw (drop-getD (b .at) items tag (opens (h .0 .head)) (h .0 .body) ((static ok (h .0 .reach)) .text), h .0 .sort)
+
+      go : (f : Bool) → isLoop (b .sort) ≡ f → (anyBox isLoop bs ≡ true → Loop i st xs tg bs) → Loop i st xs tg (b ∷ bs)
+      go true e rec = record { b = b; bs = bs; under = here; headed = h .0; loops = e; found = rw (item, e) }
+      go false e rec =
+          let r = rec (rw e at a) in
+          record { b = r .b; bs = r .bs; under = there (r .under); headed = r .headed; loops = r .loops; found = rw (item, e) (r .found) }
+
+  pub innermost-loop : {m : Run} {su : Names} {l : List Box} {p tg : Bool} {k : Kinds} {xs : List Item} → Here ok m su l p tg k (breakloop ∷ xs)
+      → Loop (m .pc) (erase l) (breakloop ∷ xs) tg l
+  innermost-loop {l = []} h = no ((clean ok (h .reach)) .placed)
+  innermost-loop {m} {l = b ∷ bs} {tg = tg} {xs = xs} h =
+      find-loop (m .pc) (erase (b ∷ bs)) (breakloop ∷ xs) tg (b ∷ bs) ((static ok (h .reach)) .heads) (not-f (anyBox isLoop (b ∷ bs)) ((clean ok (h .reach)) .placed))
+
+  strays-not : (x : Item) {ps : List ℕ} (b : Box) (bs : List Box) → ps ≡ positions (b ∷ bs) → fits x (b .sort) ≡ true → strays x ps (erase (b ∷ bs)) ≡ false
+  strays-not x b bs q f = rw (q, f, eq-eqb (b .at) (b .at) refl)
+
+  abbrev astray : Run → Item → Bool
+  astray m x = isOpen x && isNone (closeOf items (m .pc)) || (isBranch x || isClose x) && strays x (m .opened) (boxesAt items (m .pc)) || isBreak x && noneOpen (unwind items (m .opened))
+
+  module _ {m : Run} {su : Names} {p tg : Bool} {k : Kinds} {xs : List Item} where
+    not-astray : (x : Item) (l : List Box) → Here ok m su l p tg k (x ∷ xs) → astray m x ≡ false
+    not-astray (act a) l h = refl
+    not-astray (pack a) l h = refl
+    not-astray (opens a) l h = rw ((close-head ok (h .reach)) .is)
+    not-astray (branch a) [] h = no ((clean ok (h .reach)) .placed)
+    not-astray (branch a) (b ∷ bs) h =
+        rw ((static ok (h .reach)) .scanned, strays-not (branch a) b bs (not-again ok h refl) (branch-fits a b bs ((clean ok (h .reach)) .placed)))
+    not-astray (closes a) [] h = no ((clean ok (h .reach)) .placed)
+    not-astray (closes a) (b ∷ bs) h =
+        rw ((static ok (h .reach)) .scanned, strays-not (closes a) b bs (not-again ok h refl) (closes-fits a b bs ((clean ok (h .reach)) .placed)))
+    not-astray breakloop l h = rw (not-again ok h refl, (innermost-loop h) .found)
+    not-astray tag l h = refl
+
+  -- ---- 63, and all of them
+
+  module _ {m : Run} {su : Names} {l : List Box} {p tg : Bool} {k : Kinds} {x : Item} {xs : List Item} (h : Here ok m su l p tg k (x ∷ xs)) where
+    abbrev full : Bool
+    full = isOpen x && leb 8 (length (m .opened)) && not (opensA isLoop x && inside (m .pc) (m .opened))
+
+    not-full : full ≡ false
+    not-full = go (h .boxes)
+      where
+        go : Opened (m .pc) (x ∷ xs) (m .opened) l → full ≡ false
+        go (inl q) = rw (q, length-positions l, (clean ok (h .reach)) .eighth)
+        go (inr q) = rw (q .0, q .1, eq-eqb (m .pc) (m .pc) refl) (and-false (isOpen x && leb 8 (suc (length (positions l)))))
+
+    pub no-fault : first (faults items m x) ≡ 0
+    no-fault =
+        let c = clean ok (h .reach) in
+        let r = reads-fine x c (knows ok h) in
+        rw (r .0, r .1, not-astray x l h, not-full, h .packed, c .packed)
+
+  -- ---- the mates that a false condition tries
+
+  module _ {m : Run} {su : Names} {l : List Box} {p tg : Bool} {k : Kinds} {c : Condition} {xs : List Item} (h : Here ok m su l p tg k (opens (if' c) ∷ xs)) where
+    abbrev pub tried-mates : Chosen
+    tried-mates = choose (m .vars) (m .pc) (m .pc) (boxesAt items (m .pc)) (drop (m .pc) items)
+
+    pub mates-good : Picks items (m .pc) su l tried-mates
+    mates-good =
+        let s = static ok (h .reach) in
+        rw (s .scanned, s .text, no-mark (opens (if' c)) (λ s. refl) (m .pc) (erase l)) (choose-good ok (m .vars) xs (more (h .reach)) here refl refl (readable (knows ok h)))
+
+  picks-good : {i : ℕ} {su : Names} {l : List Box} {d : Chosen} → Picks items i su l d → badOf d ≡ 0
+  picks-good (goes r e f) = refl
+  picks-good (passes r e) = refl
+
+  pub no-try : {m : Run} {su : Names} {l : List Box} {p tg : Bool} {k : Kinds} (x : Item) {xs : List Item} → Here ok m su l p tg k (x ∷ xs) → tries items m x ≡ 0
+  no-try (act a) h = refl
+  no-try (pack q) h = refl
+  no-try {m} (opens (if' c)) h = go (holds (m .vars) c)
+    where
+      go : (b : Bool) → cond b 0 (badOf (tried-mates h)) ≡ 0
+      go true = refl
+      go false = picks-good (mates-good h)
+  no-try (opens (loop c)) h = refl
+  no-try (opens (sweep w)) h = refl
+  no-try (branch b) h = refl
+  no-try (closes e) h = refl
+  no-try breakloop h = refl
+  no-try tag h = refl

@@ -1,0 +1,73 @@
+-- What a caller is told, by the answers of the loader and of the checker.
+use Prim.Native.Nat.{ℕ}
+use mathlib.Core.Path.{_≡_, refl, sym, ap, _∙_}
+use mathlib.Core.Bool.{Bool, true, false, cond}
+use mathlib.Core.List.{List}
+use lib.Dec.{eqb}
+use lib.ListN.{length}
+use Rattle.table.specs.declared.Script.{Script}
+use Rattle.argument.specs.declared.Refusal.{Refusal}
+use Rattle.argument.specs.declared.Refusal.the-variants.{TooLong as tooLong, NoEnd as noEnd, LongLine as longLine, TooManyItems as tooManyItems, UnknownCommand as unknownCommand, BadArguments as badArguments, Undeclared as undeclared, DeclaredTwice as declaredTwice, TooManyNames as tooManyNames}
+use Rattle.argument.specs.Refusal.{numberOf as formNumber}
+use Rattle.script.specs.declared.Answer.the-variants as form
+use Rattle.script.specs.declared.Loaded.{Loaded}
+use Rattle.script.specs.Load.{loaded, meaning as loadedMeaning}
+use Rattle.rules.specs.declared.Rule.{Rule}
+use Rattle.rules.specs.declared.Verdict.{Verdict as Judgement}
+use Rattle.rules.specs.declared.Verdict.the-variants as rule
+use Rattle.rules.specs.Check.{Verdict, accepted, refused, verdict}
+use Rattle.rules.specs.Verdict.{numberOf as ruleNumber, meaning as verdictMeaning}
+use Rattle.machine.specs.declared.Control.{Control}
+use Rattle.machine.specs.declared.Offer.{Offer}
+use Rattle.machine.specs.Machine.{fresh}
+use Rattle.safety.specs.Safety.{answersFrom, allAllowed}
+use Rattle.safety.specs.Outcome.{Outcome, refusal, judged, checkedOutcome, outcome}
+use Rattle.safety.proofs.Safe.{answers-allowed}
+
+module _ (size : ℕ) (t : Script) (ps : List (Control × Offer)) (v : Judgement) (p : verdictMeaning v ≡ verdict size t) where
+  pub rules-yes : v ≡ rule.Accepted → checkedOutcome size t ps ≡ record { number = 0; line = 0; answers = answersFrom size t fresh ps }
+  unfolding checkedOutcome
+  rules-yes e = rw (← p, e)
+
+  pub rules-no : (r : Rule) (k : ℕ) → v ≡ rule.Refused r k → checkedOutcome size t ps ≡ refusal (ruleNumber r) k
+  unfolding checkedOutcome
+  rules-no r k e = rw (← p, e)
+
+not-zero : (r : Refusal) → eqb (formNumber r) 0 ≡ false
+unfolding formNumber
+not-zero tooLong = refl
+not-zero noEnd = refl
+not-zero longLine = refl
+not-zero tooManyItems = refl
+not-zero unknownCommand = refl
+not-zero badArguments = refl
+not-zero undeclared = refl
+not-zero declaredTwice = refl
+not-zero tooManyNames = refl
+
+module _ (text : List ℕ) (ps : List (Control × Offer)) (l : Loaded) (p : loadedMeaning l ≡ loaded text) where
+  pub form-yes : l .answer ≡ form.Accepted → outcome text ps ≡ checkedOutcome (length text) (l .script) ps
+  unfolding outcome
+  form-yes e = rw (← p, e)
+
+  pub form-no : (r : Refusal) (k : ℕ) → l .answer ≡ form.Refused r k → outcome text ps ≡ refusal (formNumber r) k
+  unfolding outcome
+  form-no r k e = rw (← p, e, not-zero r)
+
+-- ---- the promise
+
+checked-allowed : (size : ℕ) (t : Script) (ps : List (Control × Offer)) → allAllowed ((checkedOutcome size t ps) .answers) ≡ true
+unfolding checkedOutcome
+checked-allowed size t ps = go (verdict size t) refl
+  where
+    go : (v : Verdict) → verdict size t ≡ v → allAllowed ((judged v (answersFrom size t fresh ps)) .answers) ≡ true
+    go accepted e = answers-allowed size t e ps
+    go (refused n k) e = refl
+
+pub promised : (text : List ℕ) (ps : List (Control × Offer)) → allAllowed ((outcome text ps) .answers) ≡ true
+unfolding outcome
+promised text ps = go (eqb ((loaded text) .number) 0)
+  where
+    go : (b : Bool) → allAllowed ((cond b (checkedOutcome (length text) ((loaded text) .table) ps) (refusal ((loaded text) .number) ((loaded text) .line))) .answers) ≡ true
+    go true = checked-allowed (length text) ((loaded text) .table) ps
+    go false = refl

@@ -1,0 +1,70 @@
+-- Demand 3: an accepted script never stops half way.
+use Prim.Native.Nat.{ℕ}
+use mathlib.Core.Path.{_≡_, refl}
+use mathlib.Core.Bool.{Bool, true, false, _&&_, cond}
+use mathlib.Core.List.{List, [], _∷_}
+use lib.Dec.{leb}
+use lib.ListN.{length}
+use borrow.Author.Tests.{leb-true}
+use Rattle.table.specs.declared.Script.{Script}
+use Rattle.table.specs.Shape.{itemsOf, itemsOk, inShape}
+use Rattle.script.specs.Load.{loaded}
+use Rattle.rules.specs.Check.{Verdict, accepted, refused, atLine, walked, verdict}
+use Rattle.machine.specs.declared.Control.{Control}
+use Rattle.machine.specs.declared.Offer.{Offer}
+use Rattle.machine.specs.Machine.{Run, fresh, step}
+use Rattle.safety.specs.Safety.{Promises, Safe, SafeText, answersFrom, allAllowed}
+use Rattle.safety.proofs.Laws.{and-l, and-r, and-t}
+use Rattle.safety.proofs.Walk.{Accepted}
+use Rattle.safety.proofs.Stands.{Good}
+use Rattle.safety.proofs.Kept.{Kept, again-kept, fresh-good}
+
+cond-accepted : (b : Bool) (v : Verdict) → cond b v (refused 30 0) ≡ accepted → (b ≡ true) × (v ≡ accepted)
+cond-accepted true v e = (refl, e)
+cond-accepted false v e = (cc, cc)
+
+line-accepted : (t : Script) (v : Verdict) → atLine t v ≡ accepted → v ≡ accepted
+line-accepted t accepted e = refl
+line-accepted t (refused n i) e = cc
+
+module _ (size : ℕ) (t : Script) (ok : verdict size t ≡ accepted) where
+  in-shape : inShape size t ≡ true
+  unfolding verdict
+  in-shape = (cond-accepted (inShape size t) _ ok) .0
+
+  accepts : Accepted (t .names) size (itemsOf t)
+  unfolding verdict inShape
+  accepts =
+      let few = leb (t .count) 128 && leb (t .names) 32 in
+      let shaped = itemsOk (t .names) size (itemsOf t) in
+      record {
+        few = leb-true (t .names) 32 (and-r (leb (t .count) 128) (leb (t .names) 32) (and-l few shaped in-shape));
+        shaped = and-r few shaped in-shape;
+        passed = line-accepted t (walked t) ((cond-accepted (inShape size t) _ ok) .1);
+      }
+
+  step-kept : (m : Run) (c : Control) (o : Offer) → Good accepts m → Kept accepts m c o (step size t m c o)
+  unfolding step
+  step-kept m c o g = rw (in-shape, g .shape) (again-kept accepts m c o g)
+
+  runs-kept : (ps : List (Control × Offer)) (m : Run) → Good accepts m → Promises size t m ps
+  runs-kept [] m g = tt
+  runs-kept (p ∷ ps) m g =
+      let f = step-kept m (p .0) (p .1) g in
+      (f .0, runs-kept ps ((step size t m (p .0) (p .1)) .next) (f .1))
+
+  -- of any accepted table
+  pub safe : Safe size t
+  safe ps = runs-kept ps fresh (fresh-good accepts)
+
+  promised-answers : (ps : List (Control × Offer)) (m : Run) → Promises size t m ps → allAllowed (answersFrom size t m ps) ≡ true
+  unfolding answersFrom
+  promised-answers [] m h = refl
+  promised-answers (p ∷ ps) m h = and-t (h .0 .answer) (promised-answers ps ((step size t m (p .0) (p .1)) .next) (h .1))
+
+  pub answers-allowed : (ps : List (Control × Offer)) → allAllowed (answersFrom size t fresh ps) ≡ true
+  answers-allowed ps = promised-answers ps fresh (safe ps)
+
+-- and of any accepted text
+pub safe-text : (text : List ℕ) → SafeText text
+safe-text text formed ok = safe (length text) ((loaded text) .table) ok

@@ -1,0 +1,205 @@
+-- One step of an accepted script: what it answers, and the run that it leaves.
+use Prim.Native.Nat.{ℕ, suc, _≤_}
+use mathlib.Core.Path.{_≡_, refl, sym, ap, _∙_}
+use mathlib.Core.Logic.{inl, inr}
+use mathlib.Core.Bool.{Bool, true, false, not, _&&_, _||_, cond}
+use mathlib.Core.List.{List, [], _∷_}
+use mathlib.Core.Option.{Option, none, some}
+use native.Mathlib.Omega.{arith}
+use lib.Dec.{ltb}
+use lib.ListN.{length, drop}
+use borrow.Author.Tests.{le-leb}
+use Rattle.table.specs.declared.Act.the-variants.{Var as var, Store as store, Copy as copy, Calc as calc, Meas as meas, TimerGet as timerGet, SendString as sendString, Wait as wait, SetE as setE, SetMode as setMode, TimerStart as timerStart, CellOn as cellOn, CellOff as cellOff, Abort as abort}
+use Rattle.table.specs.declared.Head.the-variants.{If as if', Loop as loop, Sweep as sweep}
+use Rattle.table.specs.declared.Item.{Item}
+use Rattle.table.specs.declared.Item.the-variants.{Act as act, Pack as pack, Open as opens, Branch as branch, Close as closes, Break as breakloop, Tag as tag}
+use Rattle.table.specs.Item.{isSweep}
+use Rattle.table.specs.Uses.{gives, Kinds, Names, first}
+use Rattle.rules.specs.declared.OpenBox.{OpenBox as Box}
+use Rattle.rules.specs.Check.{State, isEmpty}
+use Rattle.machine.specs.declared.Control.{Control}
+use Rattle.machine.specs.declared.Control.the-variants.{None as calm, Z, Y}
+use Rattle.machine.specs.declared.Offer.{Offer}
+use Rattle.machine.specs.declared.Offer.the-variants.{Nothing as no-offer, Float as one, Point as point, Done as done}
+use Rattle.machine.specs.Machine.{Run, Out, Step, isEmpty as noneOpen, anyOpen, leaveOuts, isNone, said, next, run, Meets, ready, short, amiss, quiet, asksOne, asksPoint, meets, served, finish, atItem, told, tagFrom, cleared, aborted, moved, runOk}
+use Rattle.safety.specs.Safety.{no-reading, one-float, point-or-done, wantedBy, wantedFrom, abortDue, wantedAt, mismatch}
+use Rattle.safety.proofs.Laws.{no, no′, or-r, and-r, not-t, not-nothing}
+use Rattle.safety.proofs.Walk.{Accepted, state, Reach, outset, more, clean, ends}
+use Rattle.safety.proofs.Static.{static}
+use Rattle.safety.proofs.Names.{slots-ok}
+use Rattle.safety.proofs.Stands.{Opened, Here, Good, shape-of, good, land}
+use Rattle.safety.proofs.NoFault.{no-fault, no-try}
+use Rattle.safety.proofs.Items.{FineStep, run-fine}
+
+-- an offer that is not what is wanted
+abbrev pub isAmiss : Meets → Bool
+isAmiss ready = false
+isAmiss short = false
+isAmiss amiss = true
+
+abbrev pub isShort : Meets → Bool
+isShort ready = false
+isShort short = true
+isShort amiss = false
+
+-- where nothing is wanted there is no wait
+quiet-short : (o : Offer) → isShort (quiet o) ≡ false
+quiet-short no-offer = refl
+quiet-short (one x) = refl
+quiet-short (point p) = refl
+quiet-short done = refl
+
+quiet-amiss : (o : Offer) → isAmiss (quiet o) ≡ mismatch no-reading o
+quiet-amiss no-offer = refl
+quiet-amiss (one x) = refl
+quiet-amiss (point p) = refl
+quiet-amiss done = refl
+
+one-amiss : (o : Offer) → isAmiss (asksOne o) ≡ mismatch one-float o
+one-amiss no-offer = refl
+one-amiss (one x) = refl
+one-amiss (point p) = refl
+one-amiss done = refl
+
+point-amiss : (o : Offer) → isAmiss (asksPoint o) ≡ mismatch point-or-done o
+point-amiss no-offer = refl
+point-amiss (one x) = refl
+point-amiss (point p) = refl
+point-amiss done = refl
+
+meets-amiss : (x : Item) (o : Offer) → isAmiss (meets (gives x) o) ≡ mismatch (wantedBy x) o
+meets-amiss (act (var v)) o = quiet-amiss o
+meets-amiss (act (store v l c)) o = quiet-amiss o
+meets-amiss (act (copy a b)) o = quiet-amiss o
+meets-amiss (act (calc f v x)) o = quiet-amiss o
+meets-amiss (act (meas f v c)) o = one-amiss o
+meets-amiss (act (timerGet v)) o = one-amiss o
+meets-amiss (act (sendString s)) o = quiet-amiss o
+meets-amiss (act (wait f)) o = quiet-amiss o
+meets-amiss (act (setE f)) o = quiet-amiss o
+meets-amiss (act (setMode n)) o = quiet-amiss o
+meets-amiss (act timerStart) o = quiet-amiss o
+meets-amiss (act cellOn) o = quiet-amiss o
+meets-amiss (act cellOff) o = quiet-amiss o
+meets-amiss (act abort) o = quiet-amiss o
+meets-amiss (pack p) o = quiet-amiss o
+meets-amiss (opens (if' c)) o = quiet-amiss o
+meets-amiss (opens (loop c)) o = quiet-amiss o
+meets-amiss (opens (sweep w)) o = point-amiss o
+meets-amiss (branch b) o = quiet-amiss o
+meets-amiss (closes e) o = quiet-amiss o
+meets-amiss breakloop o = quiet-amiss o
+meets-amiss tag o = quiet-amiss o
+
+module _ {names size : ℕ} {items : List Item} (ok : Accepted names size items) where
+  -- a step of a run m that lives: made where the offer is what is wanted; m₁ is the run with the control, which a wait keeps
+  pub record Comes (m : Run) (wr : Bool) (s : Step) : Type 0 where
+    pub met : Meets
+    pub m₁ : Run
+    pub made : Step
+    pub is : s ≡ served m m₁ met made
+    pub amiss-is : isAmiss met ≡ wr
+    pub waits : isShort met ≡ true → Good ok m₁
+    pub fine : FineStep ok made
+
+  quiet-comes : (m m₁ : Run) (o : Offer) (s : Step) → FineStep ok s → Comes m (mismatch no-reading o) (served m m₁ (quiet o) s)
+  quiet-comes m m₁ o s f = record { met = quiet o; m₁ = m₁; made = s; is = refl; amiss-is = quiet-amiss o; waits = λ e. no′ (sym (quiet-short o) ∙ e); fine = f }
+
+  finish-comes : (m₀ m : Run) (o : Offer) (os : List Out) → runOk items m ≡ true → Comes m₀ (mismatch no-reading o) (finish m₀ m o os)
+  finish-comes m₀ m o os g = quiet-comes m₀ m o _ (record { shape = g; life = tt })
+
+  -- ---- an abort: to the tag, or to the end
+
+  -- the item that an abort goes to
+  record Tagged (i : ℕ) : Type 0 where
+    s : State
+    k : Kinds
+    ys : List Item
+    reach : Reach items i s k (tag ∷ ys)
+
+  find-tag : (xs : List Item) (j : ℕ) {s : State} {k : Kinds} (i : ℕ) → Reach items j s k xs → tagFrom j xs ≡ some i → Tagged i
+  find-tag [] j i r e = no (ap isNone e)
+  find-tag (tag ∷ xs) j {s} {k} i r e =
+      let q : j ≡ i = cc in
+      rw (← q) (record { s = s; k = k; ys = xs; reach = r })
+  find-tag (act a ∷ xs) j i r e = find-tag xs (suc j) i (more r) e
+  find-tag (pack a ∷ xs) j i r e = find-tag xs (suc j) i (more r) e
+  find-tag (opens a ∷ xs) j i r e = find-tag xs (suc j) i (more r) e
+  find-tag (branch a ∷ xs) j i r e = find-tag xs (suc j) i (more r) e
+  find-tag (closes a ∷ xs) j i r e = find-tag xs (suc j) i (more r) e
+  find-tag (breakloop ∷ xs) j i r e = find-tag xs (suc j) i (more r) e
+
+  none-open : (tg : Bool) (l : List Box) → (true && (tg || not (isEmpty l))) ≡ false → l ≡ []
+  none-open tg [] e = refl
+  none-open tg (b ∷ bs) e = no (or-r tg true e)
+
+  -- ---- from where the walk stood, m₀ before the step and m with the control
+
+  module _ (m₀ : Run) {m : Run} {su : Names} {l : List Box} {p tg : Bool} {k : Kinds} (o : Offer) where
+    end-boxes : Here ok m su l p tg k [] → noneOpen (m .opened) ≡ true
+    end-boxes h = go l (h .boxes) ((ends ok (h .reach)) .0)
+      where
+        go : (l : List Box) → Opened (m .pc) [] (m .opened) l → isEmpty l ≡ true → noneOpen (m .opened) ≡ true
+        go [] (inl q) e = rw q
+        go (b ∷ bs) (inl q) e = no′ e
+        go l (inr q) e = no′ (q .1)
+
+    item-comes : (xs : List Item) → Here ok m su l p tg k xs → Comes m₀ (mismatch (wantedFrom xs) o) (atItem items m₀ m o xs)
+    item-comes [] h =
+        let z : first ((62, not (noneOpen (m .opened))) ∷ (64, m .packed) ∷ []) ≡ 0 = rw (end-boxes h, h .packed, (ends ok (h .reach)) .1) in
+        rw z (finish-comes m₀ m o [] (shape-of ok h))
+    item-comes (x ∷ xs) h =
+        rw (no-fault ok h, no-try ok x h) (record {
+          met = meets (gives x) o;
+          m₁ = m;
+          made = run items m x o;
+          is = refl;
+          amiss-is = meets-amiss x o;
+          waits = λ e. good ok h;
+          fine = run-fine ok x o h;
+        })
+
+    module _ {xs : List Item} (h : Here ok m su l p tg k xs) where
+      -- all boxes closed, at item i
+      cleared-ok : (i : ℕ) → i ≤ length items → runOk items (cleared m i) ≡ true
+      cleared-ok i g = rw (le-leb i (length items) g, slots-ok (m .vars) (h .vars .fine))
+
+      abbrev to-end : Step
+      to-end = finish m₀ (cleared m (m .pc)) o (leaveOuts items (m .opened))
+
+      abbrev to-tag : ℕ → Step
+      to-tag i = served m₀ (cleared m i) (quiet o) (said (leaveOuts items (m .opened)) (next (cleared m i)))
+
+      ending : Comes m₀ (mismatch no-reading o) to-end
+      ending = finish-comes m₀ (cleared m (m .pc)) o (leaveOuts items (m .opened)) (cleared-ok (m .pc) (omega (arith, (static ok (h .reach)) .span)))
+
+      tag-comes : {i : ℕ} → m .packed ≡ false → Tagged i → Comes m₀ (mismatch no-reading o) (to-tag i)
+      tag-comes {i} q g = quiet-comes m₀ (cleared m i) o _ (land ok (more at-tag) (inl refl) q (λ n e. not-nothing n e) tt (h .vars) (h .living))
+        where
+          boxes : g .s .boxes ≡ []
+          boxes = none-open (g .s .tagged) (g .s .boxes) ((clean ok (g .reach)) .tagged)
+
+          at-tag : Reach items i (state (g .s .sure) [] false (g .s .tagged)) (g .k) (tag ∷ g .ys)
+          at-tag = rw (boxes, (clean ok (g .reach)) .packed) at (g .reach)
+
+      abort-comes : (f : Option ℕ) → tagFrom 0 items ≡ f → m .packed ≡ false → Comes m₀ (mismatch no-reading o) (aborted items m₀ m o f)
+      abort-comes none e q = ending
+      abort-comes (some i) e q = go (ltb i (m .pc))
+        where
+          go : (b : Bool) → Comes m₀ (mismatch no-reading o) (cond b to-end (to-tag i))
+          go true = ending
+          go false = tag-comes q (find-tag items 0 i outset e)
+
+      pub moved-comes : Comes m₀ (mismatch (wantedAt items m) o) (moved items m₀ m o)
+      moved-comes = go (abortDue items m) refl
+        where
+          go : (b : Bool) → abortDue items m ≡ b
+              → Comes m₀ (mismatch (cond b no-reading (wantedFrom (drop (m .pc) items))) o) (cond b (aborted items m₀ m o (tagFrom 0 items)) (atItem items m₀ m o (drop (m .pc) items)))
+          go true e = abort-comes (tagFrom 0 items) refl (not-t (m .packed) (and-r (m .pending && not (anyOpen isSweep items (m .opened))) (not (m .packed)) e))
+          go false e = rw ((static ok (h .reach)) .text) (item-comes xs h)
+
+  -- the control moves nothing
+  pub told-here : {m : Run} (c : Control) {su : Names} {l : List Box} {p tg : Bool} {k : Kinds} {xs : List Item} → Here ok m su l p tg k xs → Here ok (told items m c) su l p tg k xs
+  told-here calm h = h
+  told-here Z h = record { reach = h .reach; boxes = h .boxes; packed = h .packed; cover = h .cover; covers = h .covers; vars = h .vars; living = h .living }
+  told-here Y h = record { reach = h .reach; boxes = h .boxes; packed = h .packed; cover = h .cover; covers = h .covers; vars = h .vars; living = h .living }

@@ -1,0 +1,121 @@
+-- The checker's walk over the items of an accepted script: the state before each item, and what its tests said of it.
+use Prim.Native.Nat.{ℕ, zero, suc, _≤_, _<_}
+use mathlib.Core.Path.{_≡_, refl}
+use mathlib.Core.Bool.{Bool, true, false, not, _&&_, _||_}
+use mathlib.Core.List.{List, [], _∷_}
+use native.Mathlib.Omega.{arith}
+use lib.Dec.{ltb, leb}
+use lib.ListN.{length, replicate}
+use borrow.Author.Tests.{ltb-true}
+use Rattle.table.specs.declared.Operand.{Operand}
+use Rattle.table.specs.declared.Branch.{Branch}
+use Rattle.table.specs.declared.Close.{Close}
+use Rattle.table.specs.declared.Item.{Item}
+use Rattle.table.specs.declared.Item.the-variants.{Branch as branch, Close as closes}
+use Rattle.table.specs.declared.Known.the-variants.{Unknown as unknown}
+use Rattle.table.specs.declared.Give.{Give}
+use Rattle.table.specs.declared.Give.the-variants.{Like as like, Float as float}
+use Rattle.table.specs.Item.{isOpen, isTag, fits}
+use Rattle.table.specs.Uses.{uses, gives, Kinds, kindAt, wrong, wrongGive, Names, has, missing, breaksOrder, first}
+use Rattle.table.specs.Shape.{operandOk, wantsOk, givesOk, ownOk, itemOk, itemsOk}
+use Rattle.rules.specs.declared.OpenBox.{OpenBox as Box}
+use Rattle.rules.specs.Check.{learn, kindsOf, State, begin, isEmpty, base, misplaced, refusals, refusalsAtEnd, after, Verdict, accepted, orGo, walk}
+use Rattle.safety.proofs.Laws.{or-l, or-r, and-l, and-r, not-f, skip}
+
+-- the kinds of the whole text
+abbrev pub textKinds : List Item → Kinds
+textKinds items = kindsOf (replicate 32 unknown) items
+
+-- the items of a script that the checker accepts
+pub record Accepted (names size : ℕ) (items : List Item) : Type 0 where
+  pub few : names ≤ 32
+  pub shaped : itemsOk names size items ≡ true
+  pub passed : walk (textKinds items) 0 begin items ≡ accepted
+
+-- the checker's state: what is surely written, the open boxes, a package open, the tag seen
+abbrev pub state : Names → List Box → Bool → Bool → State
+state su l p tg = record { sure = su; boxes = l; packed = p; tagged = tg }
+
+-- s is the state before item i, k the kinds from the items before it, xs the items from there on
+pub data Reach (items : List Item) : ℕ → State → Kinds → List Item → Type 0 where
+  outset : Reach items 0 begin (replicate 32 unknown) items
+  more : {i : ℕ} {s : State} {k : Kinds} {x : Item} {xs : List Item} → Reach items i s k (x ∷ xs) → Reach items (suc i) (after i s x) (learn k (gives x)) xs
+
+-- ---- an accepted item passes every test
+
+pub record Clean (k : Kinds) (s : State) (x : Item) : Type 0 where
+  pub kinds : wrong (kindAt k) (uses x) ≡ false
+  pub gifts : wrongGive (kindAt k) (gives x) ≡ false
+  pub there : missing (has (base s x)) (uses x) ≡ false
+  pub placed : misplaced x (s .boxes) ≡ false
+  pub eighth : (isOpen x && leb 8 (length (s .boxes))) ≡ false
+  pub packed : breaksOrder x (s .packed) ≡ false
+  pub tagged : (isTag x && (s .tagged || not (isEmpty (s .boxes)))) ≡ false
+
+is-clean : (k : Kinds) (s : State) (x : Item) → first (refusals k s x) ≡ 0 → Clean k s x
+is-clean k s x e₀ =
+    let a = skip 18 _ _ e₀ in
+    let b = skip 19 _ _ (a .1) in
+    let c = skip 20 _ _ (b .1) in
+    let d = skip 21 _ _ (c .1) in
+    let f = skip 22 _ _ (d .1) in
+    let g = skip 23 _ _ (f .1) in
+    record {
+      kinds = or-l (wrong (kindAt k) (uses x)) (wrongGive (kindAt k) (gives x)) (a .0);
+      gifts = or-r (wrong (kindAt k) (uses x)) (wrongGive (kindAt k) (gives x)) (a .0);
+      there = b .0;
+      placed = c .0;
+      eighth = d .0;
+      packed = f .0;
+      tagged = g .0;
+    }
+
+orGo-accepted : (n i : ℕ) (v : Verdict) → orGo n i v ≡ accepted → (n ≡ 0) × (v ≡ accepted)
+orGo-accepted zero i v e = (refl, e)
+orGo-accepted (suc n) i v e = (cc, cc)
+
+-- a closing or branch mark that is placed is of its box's sort
+pub closes-fits : (e : Close) (b : Box) (bs : List Box) → misplaced (closes e) (b ∷ bs) ≡ false → fits (closes e) (b .sort) ≡ true
+closes-fits e b bs h = not-f _ (or-l (not (fits (closes e) (b .sort))) false (or-l (not (fits (closes e) (b .sort)) || false) false h))
+
+pub branch-fits : (c : Branch) (b : Box) (bs : List Box) → misplaced (branch c) (b ∷ bs) ≡ false → fits (branch c) (b .sort) ≡ true
+branch-fits c b bs h = not-f _ (or-l (not (fits (branch c) (b .sort))) (b .last) (or-l (not (fits (branch c) (b .sort)) || b .last) false h))
+
+-- ---- of an accepted script
+
+module _ {names size : ℕ} {items : List Item} (ok : Accepted names size items) where
+  reach-walk : {i : ℕ} {s : State} {k : Kinds} {xs : List Item} → Reach items i s k xs → walk (textKinds items) i s xs ≡ accepted
+  reach-walk outset = ok .passed
+  reach-walk (more {i} {s} {k} {x} {xs} r) = (orGo-accepted (first (refusals (textKinds items) s x)) i _ (reach-walk r)) .1
+
+  pub clean : {i : ℕ} {s : State} {k : Kinds} {x : Item} {xs : List Item} → Reach items i s k (x ∷ xs) → Clean (textKinds items) s x
+  clean {i} {s} {k} {x} {xs} r = is-clean (textKinds items) s x ((orGo-accepted (first (refusals (textKinds items) s x)) i _ (reach-walk r)) .0)
+
+  pub reach-kinds : {i : ℕ} {s : State} {k : Kinds} {xs : List Item} → Reach items i s k xs → kindsOf k xs ≡ textKinds items
+  reach-kinds outset = refl
+  reach-kinds (more r) = reach-kinds r
+
+  reach-ok : {i : ℕ} {s : State} {k : Kinds} {xs : List Item} → Reach items i s k xs → itemsOk names size xs ≡ true
+  reach-ok outset = ok .shaped
+  reach-ok (more {x = x} {xs = xs} r) = and-r (itemOk names size x) (itemsOk names size xs) (reach-ok r)
+
+  pub item-ok : {i : ℕ} {s : State} {k : Kinds} {x : Item} {xs : List Item} → Reach items i s k (x ∷ xs) → itemOk names size x ≡ true
+  item-ok {x = x} {xs = xs} r = and-l (itemOk names size x) (itemsOk names size xs) (reach-ok r)
+
+  pub ends : {i : ℕ} {s : State} {k : Kinds} → Reach items i s k [] → (isEmpty (s .boxes) ≡ true) × (s .packed ≡ false)
+  ends {i} {s} {k} r =
+      let a = skip 20 _ _ ((orGo-accepted (first (refusalsAtEnd s)) i _ (reach-walk r)) .0) in
+      let b = skip 22 _ _ (a .1) in
+      (not-f (isEmpty (s .boxes)) (a .0), b .0)
+
+  name-below : (n : ℕ) → ltb n names ≡ true → n < 32
+  name-below n h = omega (arith, ltb-true n names h, ok .few)
+
+  pub gives-ok : (x : Item) → itemOk names size x ≡ true → givesOk names (gives x) ≡ true
+  gives-ok x h = and-r (ownOk names size x && wantsOk names (uses x)) (givesOk names (gives x)) h
+
+  pub like-below : (v : ℕ) (x : Operand) → givesOk names (like v x ∷ []) ≡ true → v < 32
+  like-below v x h = name-below v (and-l (ltb v names) (operandOk names x) h)
+
+  pub float-below : (v : ℕ) (gs : List Give) → givesOk names (float v ∷ gs) ≡ true → v < 32
+  float-below v gs h = name-below v (and-r (givesOk names gs) (ltb v names) h)

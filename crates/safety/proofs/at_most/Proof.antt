@@ -1,0 +1,14 @@
+-- `safety::at_most` meets its contract.
+use mathlib.Core.Path.{refl}
+use borrow.Author.Tests.{lt-ltb, le-ltb}
+use Rattle.safety.proofs.at_most.Statement.{statement}
+use Rattle.safety.proofs.at_most.Tie as tie
+
+returns : tie.Need-returns
+returns c = rw (lt-ltb (c .before .args .n) 64 (c .if1 .taken))
+
+returns-2 : tie.Need-returns-2
+returns-2 c = rw (le-ltb (c .before .args .n) 64 (c .if1 .left))
+
+pub at-most-spec : {M : Type 1} → statement M
+at-most-spec = tie.close (tie.spec returns returns-2)

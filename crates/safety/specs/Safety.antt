@@ -1,0 +1,146 @@
+-- Demand 3: any accepted script, started fresh, with any list of offers and any placing of abort and skip. Until it ends, an offer of the wrong
+-- sort is refused by 31 and changes nothing. After every step it is running, waiting, finished, or stopped by 0028 or 0010. It never gets 30 and
+-- never reaches one of the faults 60 to 64.
+use Prim.Native.Nat.{ℕ}
+use mathlib.Core.Path.{_≡_}
+use mathlib.Core.Bool.{Bool, true, false, not, _&&_, _||_, cond}
+use mathlib.Core.List.{List, [], _∷_, _++_}
+use lib.Dec.{eqb}
+use lib.ListN.{length, replicate, drop}
+use Rattle.table.specs.declared.Act.the-variants.{Var as var, Store as store, Copy as copy, Calc as calc, Meas as meas, TimerGet as timerGet, SendString as sendString, Wait as wait, SetE as setE, SetMode as setMode, TimerStart as timerStart, CellOn as cellOn, CellOff as cellOff, Abort as abort}
+use Rattle.table.specs.declared.Head.the-variants.{If as if', Loop as loop, Sweep as sweep}
+use Rattle.table.specs.declared.Item.{Item}
+use Rattle.table.specs.declared.Item.the-variants.{Act as act, Pack as pack, Open as opens, Branch as branch, Close as closes, Break as breakloop, Tag as tag}
+use Rattle.table.specs.declared.Script.{Script}
+use Rattle.table.specs.Item.{isSweep}
+use Rattle.table.specs.Shape.{itemsOf}
+use Rattle.script.specs.Load.{loaded}
+use Rattle.rules.specs.Check.{accepted, refused, verdict}
+use Rattle.machine.specs.declared.Control.{Control}
+use Rattle.machine.specs.declared.Offer.{Offer}
+use Rattle.machine.specs.declared.Offer.the-variants.{Nothing as no-offer, Float as one, Point as point, Done as done}
+use Rattle.machine.specs.Machine.{Status, live, ended, halted, broken, zero28, over10, Run, Answer, running, waiting, finished, stopped, fault, refuse, Step, fresh, anyOpen, told, step}
+
+-- ---- an offer of the wrong sort
+
+-- what the run wants where it stands: nothing, one float, or a point or done
+pub data Wanted : Type 0 where
+  no-reading one-float point-or-done : Wanted
+
+-- meas_loop_lsv wants a point or done, meas and timer_get one float, others nothing
+abbrev pub wantedBy : Item → Wanted
+wantedBy (act (var v)) = no-reading
+wantedBy (act (store v l t)) = no-reading
+wantedBy (act (copy a b)) = no-reading
+wantedBy (act (calc o v x)) = no-reading
+wantedBy (act (meas f v t)) = one-float
+wantedBy (act (timerGet v)) = one-float
+wantedBy (act (sendString s)) = no-reading
+wantedBy (act (wait f)) = no-reading
+wantedBy (act (setE f)) = no-reading
+wantedBy (act (setMode n)) = no-reading
+wantedBy (act timerStart) = no-reading
+wantedBy (act cellOn) = no-reading
+wantedBy (act cellOff) = no-reading
+wantedBy (act abort) = no-reading
+wantedBy (pack p) = no-reading
+wantedBy (opens (if' c)) = no-reading
+wantedBy (opens (loop c)) = no-reading
+wantedBy (opens (sweep w)) = point-or-done
+wantedBy (branch b) = no-reading
+wantedBy (closes e) = no-reading
+wantedBy breakloop = no-reading
+wantedBy tag = no-reading
+
+-- a step at the end of the items wants nothing
+abbrev pub wantedFrom : List Item → Wanted
+wantedFrom [] = no-reading
+wantedFrom (x ∷ xs) = wantedBy x
+
+-- an abort is due: pending, outside every measuring loop, and no package is open
+abbrev pub abortDue : List Item → Run → Bool
+abortDue xs m = m .pending && not (anyOpen isSweep xs (m .opened)) && not (m .packed)
+
+-- a step in which an abort takes effect wants nothing
+abbrev pub wantedAt : List Item → Run → Wanted
+wantedAt xs m = cond (abortDue xs m) no-reading (wantedFrom (drop (m .pc) xs))
+
+-- something is offered, and it is not what is wanted
+abbrev pub mismatch : Wanted → Offer → Bool
+mismatch no-reading no-offer = false
+mismatch no-reading (one x) = true
+mismatch no-reading (point p) = true
+mismatch no-reading done = true
+mismatch one-float no-offer = false
+mismatch one-float (one x) = false
+mismatch one-float (point p) = true
+mismatch one-float done = true
+mismatch point-or-done no-offer = false
+mismatch point-or-done (one x) = true
+mismatch point-or-done (point p) = false
+mismatch point-or-done done = false
+
+-- the run is first told the control: a Z may make an abort due
+abbrev pub wrongSort : List Item → Run → Control → Offer → Bool
+wrongSort xs m c o = mismatch (wantedAt xs (told xs m c)) o
+
+-- ---- the answers and states of an accepted script
+
+-- 0028 or 0010
+abbrev pub isCode : ℕ → Bool
+isCode n = eqb n zero28 || eqb n over10
+
+-- of the refusals 31 alone, and no fault
+abbrev pub allowed : Answer → Bool
+allowed running = true
+allowed waiting = true
+allowed finished = true
+allowed (stopped n) = isCode n
+allowed (fault n) = false
+allowed (refuse n) = eqb n 31
+
+abbrev pub unbroken : Status → Bool
+unbroken live = true
+unbroken ended = true
+unbroken (halted n) = isCode n
+unbroken (broken n) = false
+
+-- what is promised of a step s of the run m
+pub record Promise (items : List Item) (m : Run) (c : Control) (o : Offer) (s : Step) : Type 0 where
+  pub answer : allowed (s .answer) ≡ true
+  pub state : unbroken (s .next .status) ≡ true
+  -- until the run ends, an offer of the wrong sort is refused by 31, hands out nothing and changes nothing
+  pub wrong-sort : m .status ≡ live → wrongSort items m c o ≡ true → s ≡ record { answer = refuse 31; outs = []; next = m }
+  -- and 31 comes of nothing else
+  pub only-wrong : s .answer ≡ refuse 31 → (m .status ≡ live) × (wrongSort items m c o ≡ true)
+
+-- of every step of a run, one for each control and offer: the length of the script's bytes, the table, and the run so far
+abbrev pub Promises : ℕ → Script → Run → List (Control × Offer) → Type 0
+Promises size t m [] = Unit {0}
+Promises size t m (p ∷ ps) = let s = step size t m (p .0) (p .1) in Promise (itemsOf t) m (p .0) (p .1) s × Promises size t (s .next) ps
+
+-- demand 3 of a table, from fresh
+abbrev pub Safe : ℕ → Script → Type 0
+Safe size t = (ps : List (Control × Offer)) → Promises size t fresh ps
+
+-- and of a script's bytes: taken by the loader, accepted by the checker
+abbrev pub SafeText : List ℕ → Type 0
+SafeText text = (loaded text) .number ≡ 0 → verdict (length text) ((loaded text) .table) ≡ accepted → Safe (length text) ((loaded text) .table)
+
+-- the answers of a run, one for each control and offer
+unfoldable pub answersFrom : ℕ → Script → Run → List (Control × Offer) → List Answer
+answersFrom size t m [] = []
+answersFrom size t m (p ∷ ps) = let s = step size t m (p .0) (p .1) in s .answer ∷ answersFrom size t (s .next) ps
+
+-- what demand 3 says of them
+abbrev pub allAllowed : List Answer → Bool
+allAllowed [] = true
+allAllowed (a ∷ l) = allowed a && allAllowed l
+
+-- ---- the faults are there to be reached
+
+-- the text passes form, breaks a rule at a line, and its run from fresh, told and offered so, comes to the fault in the last of its steps
+pub record Reaches (text : List ℕ) (rule place before : ℕ) (ps : List (Control × Offer)) (number : ℕ) : Type 0 where
+  pub formed : (loaded text) .number ≡ 0
+  pub breaks : verdict (length text) ((loaded text) .table) ≡ refused rule place
+  pub comes : answersFrom (length text) ((loaded text) .table) fresh ps ≡ replicate before running ++ (fault number ∷ [])
