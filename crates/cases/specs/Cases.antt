@@ -1,0 +1,79 @@
+-- 01, Cases by letter: A to L as one table of questions and answers.
+use mathlib.Core.Bool.{false}
+use mathlib.Core.List.{List, [], _∷_, map}
+use Prim.Native.Nat.{ℕ}
+use Prim.Native.String.{String}
+use lib.IntN.{ℤ, pos, negsuc}
+use lib.Ieee.{Float, fin}
+use Rattle.word.specs.Word.{ascii}
+use Rattle.crc.specs.Crc.{crc}
+use Rattle.value.specs.declared.Literal.{Literal}
+use Rattle.value.specs.declared.Literal.the-variants as Literal
+use Rattle.value.specs.declared.Value.the-variants.{Real as real}
+use Rattle.value.specs.Literal.{literal}
+use Rattle.package.specs.declared.Amount.{Amount}
+use Rattle.package.specs.declared.Amount.the-variants.{Number as number, Integer as integer}
+use Rattle.package.specs.declared.Metadatum.the-variants.{Missing as missing}
+use Rattle.package.specs.declared.Part.{Part}
+use Rattle.package.specs.Package.{Reading, parts, refused, packageOf}
+use Rattle.script.specs.Load.{Outcome, refusal, accepted, emptyScript, loaded}
+
+-- what is asked of the bytes
+pub data Question : Type 0 where
+  crcOf literalOf packageFrom scriptFrom : List ℕ → Question
+
+pub data Answer : Type 0 where
+  sum : ℕ → Answer
+  value : Literal → Answer
+  reading : Reading → Answer
+  loading : Outcome → Answer
+
+-- what the definitions say
+unfoldable pub answer : Question → Answer
+answer (crcOf s) = sum (crc s)
+answer (literalOf s) = value (literal s)
+answer (packageFrom s) = reading (packageOf s)
+answer (scriptFrom s) = loading (loaded s)
+
+pub record Case : Type 0 where
+  pub letter : String
+  pub question : Question
+  pub expected : Answer
+
+abbrev pub asks : String → Question → Answer → Case
+asks l q a = record { letter = l; question = q; expected = a }
+
+-- a literal that is a float, read up to a place
+abbrev pub float : Float → ℕ → Answer
+float x stop = value (Literal.Value (real x) stop)
+
+-- a package of one part without metadata
+abbrev pub onePart : ℕ → Amount → Answer
+onePart t a = reading (parts (record { kind = t; amount = a; status = missing; range = missing; noise = missing } ∷ []))
+
+unfoldable pub cases : List Case
+cases =
+    -- CRC of `05` is 7E6C
+    asks "A" (crcOf (ascii "05")) (sum 0x7E6C) ∷
+    -- of `52`, F17E
+    asks "B" (crcOf (ascii "52")) (sum 0xF17E) ∷
+    -- of `e03`, BFA2
+    asks "C" (crcOf (ascii "e03")) (sum 0xBFA2) ∷
+    -- `1500m` is 1.5
+    asks "D" (literalOf (ascii "1500m")) (float (fin false 3 (negsuc 0)) 5) ∷
+    -- `-0` is plus zero
+    asks "E" (literalOf (ascii "-0")) (float (fin false 0 (pos 0)) 2) ∷
+    -- `da7F0BDF9u` is -999943, exponent -6
+    asks "F" (packageFrom (ascii "Pda7F0BDF9u")) (onePart 0x6461 (number (negsuc 999942) (negsuc 5))) ∷
+    -- value 0000000 is -134217728
+    asks "G" (packageFrom (ascii "Pda0000000 ")) (onePart 0x6461 (number (negsuc 134217727) (pos 0))) ∷
+    -- FFFFFFF is 134217727
+    asks "H" (packageFrom (ascii "PdaFFFFFFF ")) (onePart 0x6461 (number (pos 134217727) (pos 0))) ∷
+    -- `ja8000001i` is integer 1
+    asks "I" (packageFrom (ascii "Pja8000001i")) (onePart 0x6A61 (integer (pos 1))) ∷
+    -- `P` alone is 40
+    asks "J" (packageFrom (ascii "P")) (reading (refused 40 1)) ∷
+    -- empty script, 11
+    asks "K" (scriptFrom []) (loading (refusal 11 1)) ∷
+    -- only the empty line, accepted
+    asks "L" (scriptFrom (ascii "\n")) (loading (accepted emptyScript 1)) ∷ []
