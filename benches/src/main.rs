@@ -1,0 +1,143 @@
+//! Speed of the proved code beside the second program: the best of several turns, both in one run.
+
+mod inputs;
+
+use std::hint::black_box;
+
+use compare::proved::{self, Proved};
+use second::program::{Program, Second};
+use second::reply::{EMPTY, ROWS};
+
+const TURNS: usize = 40;
+const LEAST: f64 = 1e6;
+/// How often one call does what is cheap beside the call itself.
+const TIMES: usize = 100;
+
+#[repr(C)]
+struct TimeSpec {
+    seconds: i64,
+    nanoseconds: i64,
+}
+
+unsafe extern "C" {
+    fn clock_gettime(clock: i32, time: *mut TimeSpec) -> i32;
+}
+
+const THREAD_CPU_TIME: i32 = 3;
+
+/// What this thread has used of the processor, in nanoseconds: others on the machine do not count.
+fn used() -> f64 {
+    let mut time = TimeSpec { seconds: 0, nanoseconds: 0 };
+    unsafe { clock_gettime(THREAD_CPU_TIME, &mut time) };
+    time.seconds as f64 * 1e9 + time.nanoseconds as f64
+}
+
+/// The time of one call, in nanoseconds.
+fn time(calls: u32, call: &mut dyn FnMut()) -> f64 {
+    let start = used();
+    for _ in 0..calls {
+        call();
+    }
+    (used() - start) / f64::from(calls)
+}
+
+/// So many calls that the clock can tell.
+fn calls_for(call: &mut dyn FnMut()) -> u32 {
+    let mut calls = 1;
+    while time(calls, call) * f64::from(calls) < LEAST {
+        calls *= 2;
+    }
+    calls
+}
+
+/// Both in turn, the best of each; `units` are what one call does.
+fn race<A, B>(what: &str, units: (usize, &str), mut proved: impl FnMut() -> A, mut second: impl FnMut() -> B) {
+    let mut proved = || {
+        black_box(proved());
+    };
+    let mut second = || {
+        black_box(second());
+    };
+    let (proved_calls, second_calls) = (calls_for(&mut proved), calls_for(&mut second));
+    let mut best = (f64::MAX, f64::MAX);
+    for _ in 0..TURNS {
+        best.0 = best.0.min(time(proved_calls, &mut proved));
+        best.1 = best.1.min(time(second_calls, &mut second));
+    }
+    let each = |nanoseconds: f64| nanoseconds / units.0 as f64;
+    println!("| {what} | {:.1} | {:.1} | {} | {:.2} |", each(best.0), each(best.1), units.1, best.1 / best.0);
+}
+
+fn frames() {
+    let bytes = [b'x'; 127];
+    race("CRC of 127 bytes", (1, "call"), || proved::crc16(black_box(&bytes)), || second::frame::crc16(black_box(&bytes)));
+    let lines = inputs::framed_lines();
+    race(
+        "reading framed lines, 0 to 127 bytes of content",
+        (lines.len(), "line"),
+        || lines.iter().filter(|(line, number)| Proved.frame_read(line, *number).is_ok()).count(),
+        || lines.iter().filter(|(line, number)| Second.frame_read(line, *number).is_ok()).count(),
+    );
+}
+
+fn packages() {
+    for parts in [1, 4, 16] {
+        let package = inputs::package(parts);
+        race(
+            &format!("judging a package, {parts} parts"),
+            (1, "package"),
+            || proved::judge_package(black_box(&package)),
+            || second::package::walk(black_box(&package), |part| {
+                black_box(part);
+            }),
+        );
+    }
+}
+
+fn replies() {
+    for kilobytes in [4, 16, 64] {
+        let reply = inputs::reply(kilobytes * 1024);
+        let mut rows = [EMPTY; ROWS];
+        race(
+            &format!("reading a reply, {kilobytes} KB"),
+            (reply.len(), "byte"),
+            || proved::reply_answer(black_box(&reply)),
+            || second::reply::read(black_box(&reply), &mut rows),
+        );
+    }
+}
+
+fn scripts() {
+    for items in [16, 64, 128] {
+        let script = inputs::script(items);
+        race(
+            &format!("loading a script, {items} items"),
+            (1, "script"),
+            || proved::load_answer(black_box(&script)),
+            || second::load::load(black_box(&script)),
+        );
+    }
+}
+
+fn checks() {
+    for items in [16, 64, 128] {
+        let script = inputs::script(items);
+        let table = second::load::load(&script).expect("good form");
+        race(
+            &format!("checking the rules, {items} items"),
+            (TIMES, "check"),
+            || proved::check_times(script.len(), &table, TIMES),
+            || (0..TIMES).filter(|_| second::rules::check(black_box(&table), script.len()).is_ok()).count(),
+        );
+    }
+}
+
+fn main() {
+    println!("| What | Proved, ns | Second, ns | each | Second / proved |");
+    println!("|---|---|---|---|---|");
+    frames();
+    packages();
+    replies();
+    scripts();
+    checks();
+}
