@@ -8,37 +8,26 @@ use Rattle.argument.specs.Argument.{emptySaid, newSaid, nameSaid, litera
 use borrow.Author.Needs.{needs}
 use Rattle.argument.proofs.comparison_said.Statement.{statement}
 use Rattle.argument.proofs.comparison_said.Tie as tie
-use Rattle.argument.proofs.comparison_said.Reads as reads
-use Rattle.argument.proofs.comparison_said.Lts as lts
-use Rattle.argument.proofs.comparison_at.Reads as comparison-at-reads
-use Rattle.word.proofs.seek_word.Reads as seek-word-reads
 
--- src/lib.rt:270:27
 slice-aggregate-seek-word : tie.Need-slice-aggregate-seek-word
 slice-aggregate-seek-word c = search needs
 
--- src/lib.rt:270:11
 seek-word-requires : tie.Need-seek-word-requires
 seek-word-requires c κs = search needs
 
--- src/lib.rt:271:19
 enum-known-i : tie.Need-enum-known-i
 enum-known-i c = search needs
 
--- src/lib.rt:271:46
 comparison-at-requires : tie.Need-comparison-at-requires
 comparison-at-requires c κs = search needs
 
--- src/lib.rt:272:43
 enum-told : tie.Need-enum-told
 enum-told c = search needs
 
--- src/lib.rt:267:1
 returns : tie.Need-returns
 unfolding comparisonSaid signs padded
 returns c = simp (c .comparison-at .ensures, sym (c .before .before .before .before .seek-word .ensures) ∙ c .before .before .i .given .1, c .before .before .before .before .before .seek-word-arg .given .1)
 
--- src/lib.rt:267:1
 returns-2 : tie.Need-returns-2
 unfolding comparisonSaid signs padded
 returns-2 c = simp (sym (c .before .before .seek-word .ensures) ∙ c .enum-told .given .1, c .before .before .before .seek-word-arg .given .1)
@@ -47,10 +36,5 @@ pub comparison-said-spec : {M : Type 1} → statement M
 comparison-said-spec =
     tie.close
     (tie.spec
-    slice-aggregate-seek-word
-    seek-word-requires
-    enum-known-i
-    comparison-at-requires
-    enum-told
-    returns
-    returns-2)
+    slice-aggregate-seek-word seek-word-requires enum-known-i comparison-at-requires enum-told
+    returns returns-2)

@@ -6,15 +6,11 @@ use Rattle.argument.specs.Refusal.{numberOf}
 use Rattle.argument.specs.Argument.{emptySaid, newSaid, nameSaid, literalSaid, operandSaid, typeSaid, numberSaid, signs, comparisonAt, comparisonSaid, said, isText, textAt, saidAt}
 use Rattle.argument.proofs.empty_said.Statement.{statement}
 use Rattle.argument.proofs.empty_said.Tie as tie
-use Rattle.argument.proofs.empty_said.Reads as reads
-use Rattle.argument.proofs.empty_said.Lts as lts
 
--- src/lib.rt:164:9
 returns : tie.Need-returns
 unfolding emptySaid
 returns c = simp (eq-eqb _ _ (c .if1 .taken))
 
--- src/lib.rt:160:1
 returns-2 : tie.Need-returns-2
 unfolding emptySaid
 returns-2 c = simp (ne-eqb _ _ (c .if1 .left))

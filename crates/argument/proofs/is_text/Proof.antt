@@ -11,8 +11,6 @@ use Rattle.argument.proofs.Form.{the-type}
 use borrow.Author.Needs.{needs}
 use Rattle.argument.proofs.is_text.Statement.{statement}
 use Rattle.argument.proofs.is_text.Tie as tie
-use Rattle.argument.proofs.is_text.Reads as reads
-use Rattle.argument.proofs.is_text.Lts as lts
 
 -- the tags that `_` stands for
 abbrev others : List ℕ
@@ -29,15 +27,12 @@ rest F.Number k = refl
 rest F.Comparison k = refl
 rest F.Text k = absurd (miss others 8 tt k)
 
--- src/lib.rt:297:23
 enum-told : tie.Need-enum-told
 enum-told c = search needs
 
--- src/lib.rt:293:1
 returns : tie.Need-returns
 returns c = search needs
 
--- src/lib.rt:293:1
 returns-2 : tie.Need-returns-2
 returns-2 c = rest (c .before .args .form) (c .match .keys2)
 

@@ -7,28 +7,20 @@ use Rattle.argument.specs.Argument.{emptySaid, newSaid, nameSaid, litera
 use borrow.Author.Needs.{needs}
 use Rattle.argument.proofs.literal_said.Statement.{statement}
 use Rattle.argument.proofs.literal_said.Tie as tie
-use Rattle.argument.proofs.literal_said.Reads as reads
-use Rattle.argument.proofs.literal_said.Lts as lts
-use Rattle.value.proofs.read_literal.Reads as read-literal-reads
 
--- src/lib.rt:204:11
 read-literal-requires : tie.Need-read-literal-requires
 read-literal-requires c κs = search needs
 
--- src/lib.rt:205:24
 enum-known-v : tie.Need-enum-known-v
 enum-known-v c = search needs
 
--- src/lib.rt:206:44
 enum-told : tie.Need-enum-told
 enum-told c = search needs
 
--- src/lib.rt:201:1
 returns : tie.Need-returns
 unfolding literalSaid
 returns c = simp (sym (c .before .before .before .read-literal .ensures) ∙ c .before .v .given .1)
 
--- src/lib.rt:201:1
 returns-2 : tie.Need-returns-2
 unfolding literalSaid
 returns-2 c = simp (sym (c .before .before .read-literal .ensures) ∙ c .enum-told .given .1)

@@ -7,43 +7,31 @@ use Rattle.argument.specs.Argument.{emptySaid, newSaid, nameSaid, litera
 use borrow.Author.Needs.{needs}
 use Rattle.argument.proofs.new_said.Statement.{statement}
 use Rattle.argument.proofs.new_said.Tie as tie
-use Rattle.argument.proofs.new_said.Reads as reads
-use Rattle.argument.proofs.new_said.Lts as lts
-use Rattle.word.proofs.is_name.Reads as is-name-reads
-use Rattle.word.proofs.seek_word.Reads as seek-word-reads
 
--- src/lib.rt:186:9
 is-name-requires : tie.Need-is-name-requires
 is-name-requires c κs = search needs
 
--- src/lib.rt:187:9
 returns : tie.Need-returns
 unfolding newSaid
 returns c = simp (sym (c .before .is-name .ensures) ∙ not-true (c .before .is-name .result) (c .if1 .taken))
 
--- src/lib.rt:189:11
 seek-word-requires : tie.Need-seek-word-requires
 seek-word-requires c κs = search needs
 
--- src/lib.rt:190:41
 enum-told : tie.Need-enum-told
 enum-told c = search needs
 
--- src/lib.rt:192:16
 enum-told-2 : tie.Need-enum-told-2
 enum-told-2 c = search needs
 
--- src/lib.rt:183:1
 returns-2 : tie.Need-returns-2
 unfolding newSaid
 returns-2 c = simp (sym (c .before .before .seek-word .ensures) ∙ c .enum-told .given .1, sym (c .before .before .before .before .is-name .ensures) ∙ not-false (c .before .before .before .before .is-name .result) (c .before .before .before .if1 .left))
 
--- src/lib.rt:183:1
 returns-3 : tie.Need-returns-3
 unfolding newSaid
 returns-3 c = simp (lt-ltb _ _ (c .if2 .taken), lt-leb _ _ (c .if2 .taken), sym (c .before .before .before .seek-word .ensures) ∙ c .before .enum-told2 .given .1, sym (c .before .before .before .before .before .is-name .ensures) ∙ not-false (c .before .before .before .before .before .is-name .result) (c .before .before .before .before .if1 .left))
 
--- src/lib.rt:183:1
 returns-4 : tie.Need-returns-4
 unfolding newSaid
 returns-4 c = simp (le-leb _ _ (c .if2 .left), le-ltb _ _ (c .if2 .left), sym (c .before .before .before .seek-word .ensures) ∙ c .before .enum-told2 .given .1, sym (c .before .before .before .before .before .is-name .ensures) ∙ not-false (c .before .before .before .before .before .is-name .result) (c .before .before .before .before .if1 .left))
@@ -52,11 +40,4 @@ pub new-said-spec : {M : Type 1} → statement M
 new-said-spec =
     tie.close
     (tie.spec
-    is-name-requires
-    returns
-    seek-word-requires
-    enum-told
-    enum-told-2
-    returns-2
-    returns-3
-    returns-4)
+    is-name-requires returns seek-word-requires enum-told enum-told-2 returns-2 returns-3 returns-4)

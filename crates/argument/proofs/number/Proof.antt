@@ -7,86 +7,66 @@ use Rattle.argument.specs.Argument.{emptySaid, newSaid, nameSaid, litera
 use borrow.Author.Needs.{needs}
 use Rattle.argument.proofs.number.Statement.{statement}
 use Rattle.argument.proofs.number.Tie as tie
-use Rattle.argument.proofs.number.Reads as reads
-use Rattle.argument.proofs.number.Lts as lts
 
--- src/lib.rt:70:29
 enum-told : tie.Need-enum-told
 enum-told c = search needs
 
--- src/lib.rt:71:27
 enum-told-2 : tie.Need-enum-told-2
 enum-told-2 c = search needs
 
--- src/lib.rt:72:30
 enum-told-3 : tie.Need-enum-told-3
 enum-told-3 c = search needs
 
--- src/lib.rt:73:34
 enum-told-4 : tie.Need-enum-told-4
 enum-told-4 c = search needs
 
--- src/lib.rt:74:36
 enum-told-5 : tie.Need-enum-told-5
 enum-told-5 c = search needs
 
--- src/lib.rt:75:34
 enum-told-6 : tie.Need-enum-told-6
 enum-told-6 c = search needs
 
--- src/lib.rt:76:32
 enum-told-7 : tie.Need-enum-told-7
 enum-told-7 c = search needs
 
--- src/lib.rt:77:35
 enum-told-8 : tie.Need-enum-told-8
 enum-told-8 c = search needs
 
--- src/lib.rt:78:34
 enum-told-9 : tie.Need-enum-told-9
 enum-told-9 c = search needs
 
--- src/lib.rt:66:1
 returns : tie.Need-returns
 unfolding numberOf
 returns c = simp (c .enum-told .given .1)
 
--- src/lib.rt:66:1
 returns-2 : tie.Need-returns-2
 unfolding numberOf
 returns-2 c = simp (c .enum-told2 .given .1)
 
--- src/lib.rt:66:1
 returns-3 : tie.Need-returns-3
 unfolding numberOf
 returns-3 c = simp (c .enum-told3 .given .1)
 
--- src/lib.rt:66:1
 returns-4 : tie.Need-returns-4
 unfolding numberOf
 returns-4 c = simp (c .enum-told4 .given .1)
 
--- src/lib.rt:66:1
 returns-5 : tie.Need-returns-5
 unfolding numberOf
 returns-5 c = simp (c .enum-told5 .given .1)
 
--- src/lib.rt:66:1
 returns-6 : tie.Need-returns-6
 unfolding numberOf
 returns-6 c = simp (c .enum-told6 .given .1)
 
--- src/lib.rt:66:1
 returns-7 : tie.Need-returns-7
 unfolding numberOf
 returns-7 c = simp (c .enum-told7 .given .1)
 
--- src/lib.rt:66:1
 returns-8 : tie.Need-returns-8
 unfolding numberOf
 returns-8 c = simp (c .enum-told8 .given .1)
 
--- src/lib.rt:66:1
 returns-9 : tie.Need-returns-9
 unfolding numberOf
 returns-9 c = simp (c .enum-told9 .given .1)
@@ -95,21 +75,6 @@ pub number-spec : {M : Type 1} → statement M
 number-spec =
     tie.close
     (tie.spec
-    enum-told
-    enum-told-2
-    enum-told-3
-    enum-told-4
-    enum-told-5
-    enum-told-6
-    enum-told-7
-    enum-told-8
-    enum-told-9
-    returns
-    returns-2
-    returns-3
-    returns-4
-    returns-5
-    returns-6
-    returns-7
-    returns-8
+    enum-told enum-told-2 enum-told-3 enum-told-4 enum-told-5 enum-told-6 enum-told-7 enum-told-8
+    enum-told-9 returns returns-2 returns-3 returns-4 returns-5 returns-6 returns-7 returns-8
     returns-9)

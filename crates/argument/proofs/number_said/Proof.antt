@@ -7,28 +7,20 @@ use Rattle.argument.specs.Argument.{emptySaid, newSaid, nameSaid, litera
 use borrow.Author.Needs.{needs}
 use Rattle.argument.proofs.number_said.Statement.{statement}
 use Rattle.argument.proofs.number_said.Tie as tie
-use Rattle.argument.proofs.number_said.Reads as reads
-use Rattle.argument.proofs.number_said.Lts as lts
-use Rattle.word.proofs.read_small.Reads as read-small-reads
 
--- src/lib.rt:238:11
 read-small-requires : tie.Need-read-small-requires
 read-small-requires c κs = search needs
 
--- src/lib.rt:239:23
 enum-known-n : tie.Need-enum-known-n
 enum-known-n c = search needs
 
--- src/lib.rt:240:39
 enum-told : tie.Need-enum-told
 enum-told c = search needs
 
--- src/lib.rt:235:1
 returns : tie.Need-returns
 unfolding numberSaid
 returns c = simp (sym (c .before .before .before .read-small .ensures) ∙ c .before .n .given .1)
 
--- src/lib.rt:235:1
 returns-2 : tie.Need-returns-2
 unfolding numberSaid
 returns-2 c = simp (sym (c .before .before .read-small .ensures) ∙ c .enum-told .given .1)

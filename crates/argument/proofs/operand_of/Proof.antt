@@ -15,8 +15,6 @@ use Rattle.argument.proofs.Argument.{the-type}
 use borrow.Author.Needs.{needs}
 use Rattle.argument.proofs.operand_of.Statement.{statement}
 use Rattle.argument.proofs.operand_of.Tie as tie
-use Rattle.argument.proofs.operand_of.Reads as reads
-use Rattle.argument.proofs.operand_of.Lts as lts
 
 -- the tags that `_` stands for
 abbrev others : List ℕ
@@ -33,15 +31,12 @@ rest (A.Comparison y) k = refl
 rest (A.Text y) k = refl
 rest (A.Wrong y) k = refl
 
--- src/lib.rt:97:27
 enum-known-x : tie.Need-enum-known-x
 enum-known-x c = search needs
 
--- src/lib.rt:93:1
 returns : tie.Need-returns
 returns c = search needs
 
--- src/lib.rt:93:1
 returns-2 : tie.Need-returns-2
 returns-2 c = rest (c .before .args .x) (c .match .keys2)
 

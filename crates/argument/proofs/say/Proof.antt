@@ -7,126 +7,90 @@ use Rattle.argument.specs.Argument.{emptySaid, newSaid, nameSaid, litera
 use borrow.Author.Needs.{needs}
 use Rattle.argument.proofs.say.Statement.{statement}
 use Rattle.argument.proofs.say.Tie as tie
-use Rattle.argument.proofs.say.Reads as reads
-use Rattle.argument.proofs.say.Lts as lts
-use Rattle.argument.proofs.comparison_said.Reads as comparison-said-reads
-use Rattle.argument.proofs.empty_said.Reads as empty-said-reads
-use Rattle.argument.proofs.literal_said.Reads as literal-said-reads
-use Rattle.argument.proofs.name_said.Reads as name-said-reads
-use Rattle.argument.proofs.new_said.Reads as new-said-reads
-use Rattle.argument.proofs.number_said.Reads as number-said-reads
-use Rattle.argument.proofs.operand_said.Reads as operand-said-reads
-use Rattle.argument.proofs.type_said.Reads as type-said-reads
 
--- src/lib.rt:281:26
 enum-told : tie.Need-enum-told
 enum-told c = search needs
 
--- src/lib.rt:281:26
 empty-said-requires : tie.Need-empty-said-requires
 empty-said-requires c κs = search needs
 
--- src/lib.rt:282:22
 enum-told-2 : tie.Need-enum-told-2
 enum-told-2 c = search needs
 
--- src/lib.rt:282:22
 new-said-requires : tie.Need-new-said-requires
 new-said-requires c κs = search needs
 
--- src/lib.rt:283:23
 enum-told-3 : tie.Need-enum-told-3
 enum-told-3 c = search needs
 
--- src/lib.rt:283:23
 name-said-requires : tie.Need-name-said-requires
 name-said-requires c κs = search needs
 
--- src/lib.rt:284:26
 enum-told-4 : tie.Need-enum-told-4
 enum-told-4 c = search needs
 
--- src/lib.rt:284:26
 operand-said-requires : tie.Need-operand-said-requires
 operand-said-requires c κs = search needs
 
--- src/lib.rt:285:26
 enum-told-5 : tie.Need-enum-told-5
 enum-told-5 c = search needs
 
--- src/lib.rt:285:26
 literal-said-requires : tie.Need-literal-said-requires
 literal-said-requires c κs = search needs
 
--- src/lib.rt:286:26
 enum-told-6 : tie.Need-enum-told-6
 enum-told-6 c = search needs
 
--- src/lib.rt:286:26
 type-said-requires : tie.Need-type-said-requires
 type-said-requires c κs = search needs
 
--- src/lib.rt:287:25
 enum-told-7 : tie.Need-enum-told-7
 enum-told-7 c = search needs
 
--- src/lib.rt:287:25
 number-said-requires : tie.Need-number-said-requires
 number-said-requires c κs = search needs
 
--- src/lib.rt:288:29
 enum-told-8 : tie.Need-enum-told-8
 enum-told-8 c = search needs
 
--- src/lib.rt:288:29
 comparison-said-requires : tie.Need-comparison-said-requires
 comparison-said-requires c κs = search needs
 
--- src/lib.rt:289:39
 enum-told-9 : tie.Need-enum-told-9
 enum-told-9 c = search needs
 
--- src/lib.rt:277:1
 returns : tie.Need-returns
 unfolding said
 returns c = simp (c .empty-said .ensures, c .before .enum-told .given .1)
 
--- src/lib.rt:277:1
 returns-2 : tie.Need-returns-2
 unfolding said
 returns-2 c = simp (c .new-said .ensures, c .before .enum-told2 .given .1)
 
--- src/lib.rt:277:1
 returns-3 : tie.Need-returns-3
 unfolding said
 returns-3 c = simp (c .name-said .ensures, c .before .enum-told3 .given .1)
 
--- src/lib.rt:277:1
 returns-4 : tie.Need-returns-4
 unfolding said
 returns-4 c = simp (c .operand-said .ensures, c .before .enum-told4 .given .1)
 
--- src/lib.rt:277:1
 returns-5 : tie.Need-returns-5
 unfolding said
 returns-5 c = simp (c .literal-said .ensures, c .before .enum-told5 .given .1)
 
--- src/lib.rt:277:1
 returns-6 : tie.Need-returns-6
 unfolding said
 returns-6 c = simp (c .type-said .ensures, c .before .enum-told6 .given .1)
 
--- src/lib.rt:277:1
 returns-7 : tie.Need-returns-7
 unfolding said
 returns-7 c = simp (c .number-said .ensures, c .before .enum-told7 .given .1)
 
--- src/lib.rt:277:1
 returns-8 : tie.Need-returns-8
 unfolding said
 returns-8 c = simp (c .comparison-said .ensures, c .before .enum-told8 .given .1)
 
--- src/lib.rt:277:1
 returns-9 : tie.Need-returns-9
 unfolding said
 returns-9 c = simp (c .enum-told9 .given .1)
@@ -135,29 +99,8 @@ pub say-spec : {M : Type 1} → statement M
 say-spec =
     tie.close
     (tie.spec
-    enum-told
-    empty-said-requires
-    enum-told-2
-    new-said-requires
-    enum-told-3
-    name-said-requires
-    enum-told-4
-    operand-said-requires
-    enum-told-5
-    literal-said-requires
-    enum-told-6
-    type-said-requires
-    enum-told-7
-    number-said-requires
-    enum-told-8
-    comparison-said-requires
-    enum-told-9
-    returns
-    returns-2
-    returns-3
-    returns-4
-    returns-5
-    returns-6
-    returns-7
-    returns-8
+    enum-told empty-said-requires enum-told-2 new-said-requires enum-told-3 name-said-requires
+    enum-told-4 operand-said-requires enum-told-5 literal-said-requires enum-told-6
+    type-said-requires enum-told-7 number-said-requires enum-told-8 comparison-said-requires
+    enum-told-9 returns returns-2 returns-3 returns-4 returns-5 returns-6 returns-7 returns-8
     returns-9)

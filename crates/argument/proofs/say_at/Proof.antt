@@ -6,68 +6,48 @@ use Rattle.argument.proofs.Past as L
 use borrow.Author.Needs.{needs}
 use Rattle.argument.proofs.say_at.Statement.{statement}
 use Rattle.argument.proofs.say_at.Tie as tie
-use Rattle.argument.proofs.say_at.Reads as reads
-use Rattle.argument.proofs.say_at.Lts as lts
-use Rattle.argument.proofs.is_text.Reads as is-text-reads
-use Rattle.argument.proofs.say.Reads as say-reads
-use Rattle.argument.proofs.text_at.Reads as text-at-reads
-use Rattle.word.proofs.word_at.Reads as word-at-reads
 
--- src/lib.rt:328:8
 is-text-requires : tie.Need-is-text-requires
 is-text-requires c κs = search needs
 
--- src/lib.rt:329:9
 text-at-requires : tie.Need-text-at-requires
 text-at-requires c κs = search needs
 
--- src/lib.rt:329:9
 returns : tie.Need-returns
 unfolding saidAt
 returns c = (simp (sym (c .before .before .is-text .ensures) ∙ c .before .if1 .taken, sym (c .text-at .ensures .0)), λ h. c .text-at .ensures .1)
 
--- src/lib.rt:332:34
 sub-say : tie.Need-sub-say
 sub-say c = search needs
 
--- src/lib.rt:332:34
 part-say-start : tie.Need-part-say-start
 part-say-start c = search needs
 
--- src/lib.rt:332:34
 part-say-end : tie.Need-part-say-end
 part-say-end c = search needs
 
--- src/lib.rt:332:13
 say-requires : tie.Need-say-requires
 say-requires c κs = search needs
 
--- src/lib.rt:333:9
 returns-2 : tie.Need-returns-2
 unfolding saidAt
 returns-2 c = (L.said-past (c .before .before .before .before .before .before .args .names .now) (c .before .before .before .before .before .before .args .line .now) (c .before .before .before .before .before .before .args .form) (c .before .before .before .before .before .before .args .at) _ (sym (c .before .before .before .before .is-text .ensures) ∙ c .before .before .before .if1 .left) (c .before .before .if2 .taken) (c .say .ensures), λ h. absurd (omega (arith, h)))
 
--- src/lib.rt:335:9
 word-at-requires : tie.Need-word-at-requires
 word-at-requires c κs = search needs
 
--- src/lib.rt:338:30
 sub-say-2 : tie.Need-sub-say-2
 sub-say-2 c = inside (c .word-at .result) (c .before .before .before .before .before .args .line .now) (c .before .before .before .before .before .args .at) (c .word-at .ensures) (c .before .if2 .left) .0
 
--- src/lib.rt:338:30
 part-say-start-2 : tie.Need-part-say-start-2
 part-say-start-2 c = omega (arith, inside (c .word-at .result) (c .before .before .before .before .before .args .line .now) (c .before .before .before .before .before .args .at) (c .word-at .ensures) (c .before .if2 .left) .0, inside (c .word-at .result) (c .before .before .before .before .before .args .line .now) (c .before .before .before .before .before .args .at) (c .word-at .ensures) (c .before .if2 .left) .1)
 
--- src/lib.rt:338:30
 part-say-end-2 : tie.Need-part-say-end-2
 part-say-end-2 c = omega (arith, inside (c .word-at .result) (c .before .before .before .before .before .args .line .now) (c .before .before .before .before .before .args .at) (c .word-at .ensures) (c .before .if2 .left) .0, inside (c .word-at .result) (c .before .before .before .before .before .args .line .now) (c .before .before .before .before .before .args .at) (c .word-at .ensures) (c .before .if2 .left) .1)
 
--- src/lib.rt:338:9
 say-requires-2 : tie.Need-say-requires-2
 say-requires-2 c κs = search needs
 
--- src/lib.rt:324:1
 returns-3 : tie.Need-returns-3
 unfolding saidAt
 returns-3 c = (simp (sym (c .before .before .before .before .before .is-text .ensures) ∙ c .before .before .before .before .if1 .left, sym (c .before .before .word-at .ensures), sym (c .say2 .ensures)), λ h. inside (c .before .before .word-at .result) (c .before .before .before .before .before .before .before .args .line .now) (c .before .before .before .before .before .before .before .args .at) (c .before .before .word-at .ensures) (c .before .before .before .if2 .left) .1)
@@ -76,17 +56,5 @@ pub say-at-spec : {M : Type 1} → statement M
 say-at-spec =
     tie.close
     (tie.spec
-    is-text-requires
-    text-at-requires
-    returns
-    sub-say
-    part-say-start
-    part-say-end
-    say-requires
-    returns-2
-    word-at-requires
-    sub-say-2
-    part-say-start-2
-    part-say-end-2
-    say-requires-2
-    returns-3)
+    is-text-requires text-at-requires returns sub-say part-say-start part-say-end say-requires
+    returns-2 word-at-requires sub-say-2 part-say-start-2 part-say-end-2 say-requires-2 returns-3)

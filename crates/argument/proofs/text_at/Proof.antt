@@ -7,47 +7,34 @@ use Rattle.argument.specs.Argument.{emptySaid, newSaid, nameSaid, litera
 use borrow.Author.Needs.{needs}
 use Rattle.argument.proofs.text_at.Statement.{statement}
 use Rattle.argument.proofs.text_at.Tie as tie
-use Rattle.argument.proofs.text_at.Reads as reads
-use Rattle.argument.proofs.text_at.Lts as lts
-use Rattle.text.proofs.next_byte.Reads as next-byte-reads
-use Rattle.word.proofs.run_from.Reads as run-from-reads
 
--- src/lib.rt:308:9
 run-from-requires : tie.Need-run-from-requires
 run-from-requires c κs = search needs
 
--- src/lib.rt:310:9
 returns : tie.Need-returns
 unfolding textAt
 returns c = (simp (sym (c .before .run-from .ensures), List·getD-eq-default (c .before .before .before .args .line .now) 0 (c .if1 .taken)), omega arith)
 
--- src/lib.rt:312:8
 shared-slice-read-if2 : tie.Need-shared-slice-read-if2
 shared-slice-read-if2 c = search needs
 
--- src/lib.rt:313:9
 returns-2 : tie.Need-returns-2
 unfolding textAt
 returns-2 c = (simp (sym (c .before .before .before .run-from .ensures), ne-eqb _ _ (c .if2 .taken)), omega arith)
 
--- src/lib.rt:315:17
 add-start : tie.Need-add-start
 add-start c = search needs
 
--- src/lib.rt:316:9
 next-byte-requires : tie.Need-next-byte-requires
 next-byte-requires c κs = search needs
 
--- src/lib.rt:318:9
 returns-3 : tie.Need-returns-3
 unfolding textAt
 returns-3 c = (simp (sym (c .before .before .before .before .before .run-from .ensures), eq-eqb _ _ (c .before .before .if2 .left), sym (c .before .next-byte .ensures .0), le-ltb _ _ (c .if3 .taken)), omega arith)
 
--- src/lib.rt:320:65
 add-t19 : tie.Need-add-t19
 add-t19 c = search needs
 
--- src/lib.rt:303:1
 returns-4 : tie.Need-returns-4
 unfolding textAt
 returns-4 c = (simp (sym (c .before .before .before .before .before .run-from .ensures), eq-eqb _ _ (c .before .before .if2 .left), sym (c .before .next-byte .ensures .0), lt-ltb _ _ (c .if3 .left)), omega arith)
@@ -56,12 +43,5 @@ pub text-at-spec : {M : Type 1} → statement M
 text-at-spec =
     tie.close
     (tie.spec
-    run-from-requires
-    returns
-    shared-slice-read-if2
-    returns-2
-    add-start
-    next-byte-requires
-    returns-3
-    add-t19
-    returns-4)
+    run-from-requires returns shared-slice-read-if2 returns-2 add-start next-byte-requires returns-3
+    add-t19 returns-4)

@@ -7,28 +7,20 @@ use Rattle.argument.specs.Argument.{emptySaid, newSaid, nameSaid, litera
 use borrow.Author.Needs.{needs}
 use Rattle.argument.proofs.type_said.Statement.{statement}
 use Rattle.argument.proofs.type_said.Tie as tie
-use Rattle.argument.proofs.type_said.Reads as reads
-use Rattle.argument.proofs.type_said.Lts as lts
-use Rattle.word.proofs.read_type.Reads as read-type-reads
 
--- src/lib.rt:229:11
 read-type-requires : tie.Need-read-type-requires
 read-type-requires c κs = search needs
 
--- src/lib.rt:230:27
 enum-known-t : tie.Need-enum-known-t
 enum-known-t c = search needs
 
--- src/lib.rt:231:42
 enum-told : tie.Need-enum-told
 enum-told c = search needs
 
--- src/lib.rt:226:1
 returns : tie.Need-returns
 unfolding typeSaid
 returns c = simp (sym (c .before .before .before .read-type .ensures) ∙ c .before .t .given .1)
 
--- src/lib.rt:226:1
 returns-2 : tie.Need-returns-2
 unfolding typeSaid
 returns-2 c = simp (sym (c .before .before .read-type .ensures) ∙ c .enum-told .given .1)

@@ -15,9 +15,6 @@ use Rattle.argument.proofs.Argument.{the-type}
 use borrow.Author.Needs.{needs}
 use Rattle.argument.proofs.wrong_of.Statement.{statement}
 use Rattle.argument.proofs.wrong_of.Tie as tie
-use Rattle.argument.proofs.wrong_of.Reads as reads
-use Rattle.argument.proofs.wrong_of.Lts as lts
-use Rattle.argument.proofs.number.Reads as number-reads
 
 -- the tags that `_` stands for
 abbrev others : List ℕ
@@ -34,19 +31,15 @@ rest (A.Comparison y) k = refl
 rest (A.Text y) k = refl
 rest (A.Wrong y) k = absurd (miss others 8 tt k)
 
--- src/lib.rt:152:25
 enum-known-x : tie.Need-enum-known-x
 enum-known-x c = search needs
 
--- src/lib.rt:152:37
 number-requires : tie.Need-number-requires
 number-requires c κs = search needs
 
--- src/lib.rt:148:1
 returns : tie.Need-returns
 returns c = c .number .ensures ∙ ap wrongOf (sym (c .before .before .x .given .1))
 
--- src/lib.rt:148:1
 returns-2 : tie.Need-returns-2
 returns-2 c = rest (c .before .args .x) (c .match .keys2)
 

@@ -52,18 +52,5 @@ pub names-spec : {M : Type 1} → statement M
 names-spec =
     tie.close
     (tie.spec
-    Inv-loop
-    μ-loop
-    empty-requires
-    loop-holds
-    cast-ten
-    cast-one
-    add-t10
-    add-t11
-    slice-aggregate-with-line
-    with-line-requires
-    add-i
-    loop-less
-    loop-again
-    vetted-requires
-    returns)
+    Inv-loop μ-loop empty-requires loop-holds cast-ten cast-one add-t10 add-t11
+    slice-aggregate-with-line with-line-requires add-i loop-less loop-again vetted-requires returns)

@@ -38,13 +38,5 @@ pub with-line-spec : {M : Type 1} → statement M
 with-line-spec =
     tie.close
     (tie.spec
-    Inv-loop
-    μ-loop
-    loop-holds
-    shared-slice-read-with-byte
-    with-byte-requires
-    add-i
-    loop-less
-    loop-again
-    with-byte-requires-2
-    returns)
+    Inv-loop μ-loop loop-holds shared-slice-read-with-byte with-byte-requires add-i loop-less
+    loop-again with-byte-requires-2 returns)

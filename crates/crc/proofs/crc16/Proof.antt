@@ -41,12 +41,5 @@ pub crc16-spec : {M : Type 1} → statement M
 crc16-spec =
     tie.close
     (tie.spec
-    Inv-loop
-    μ-loop
-    loop-holds
-    shared-slice-read-take-byte
-    take-byte-requires
-    add-i
-    loop-less
-    loop-again
-    returns)
+    Inv-loop μ-loop loop-holds shared-slice-read-take-byte take-byte-requires add-i loop-less
+    loop-again returns)

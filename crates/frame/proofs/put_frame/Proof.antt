@@ -44,14 +44,5 @@ pub put-frame-spec : {M : Type 1} → statement M
 put-frame-spec =
     tie.close
     (tie.spec
-    put-bytes-requires
-    put-hex2-requires
-    add-m
-    slice-reshare-prefix-crc16
-    slice-aggregate-crc16
-    crc16-requires
-    put-hex4-requires
-    add-buf
-    slice-write-buf
-    same-length
-    returns)
+    put-bytes-requires put-hex2-requires add-m slice-reshare-prefix-crc16 slice-aggregate-crc16
+    crc16-requires put-hex4-requires add-buf slice-write-buf same-length returns)

@@ -42,12 +42,5 @@ pub read-frame-spec : {M : Type 1} → statement M
 read-frame-spec =
     tie.close
     (tie.spec
-    returns
-    sub-k
-    returns-2
-    right-crc-requires
-    returns-3
-    right-number-requires
-    returns-4
-    next-requires
-    returns-5)
+    returns sub-k returns-2 right-crc-requires returns-3 right-number-requires returns-4
+    next-requires returns-5)

@@ -47,14 +47,5 @@ pub right-crc-spec : {M : Type 1} → statement M
 right-crc-spec =
     tie.close
     (tie.spec
-    has-newline-requires
-    returns
-    add-m
-    hex-at-requires
-    enum-known-v
-    enum-told
-    returns-2
-    slice-aggregate-crc16
-    crc16-requires
-    cast-result
-    returns-3)
+    has-newline-requires returns add-m hex-at-requires enum-known-v enum-told returns-2
+    slice-aggregate-crc16 crc16-requires cast-result returns-3)

@@ -37,11 +37,4 @@ pub write-frame-spec : {M : Type 1} → statement M
 write-frame-spec =
     tie.close
     (tie.spec
-    unfit-requires
-    returns
-    add-n
-    returns-2
-    put-frame-requires
-    next-requires
-    same-length
-    returns-3)
+    unfit-requires returns add-n returns-2 put-frame-requires next-requires same-length returns-3)

@@ -8,27 +8,19 @@ use Rattle.line.specs.Line.{argumentsAt, lower, lowest, meaning, judged}
 use borrow.Author.Needs.{needs}
 use Rattle.line.proofs.branch_of.Statement.{statement}
 use Rattle.line.proofs.branch_of.Tie as tie
-use Rattle.line.proofs.branch_of.Reads as reads
-use Rattle.line.proofs.branch_of.Lts as lts
-use Rattle.line.proofs.condition_of.Reads as condition-of-reads
 
--- src/lib.rt:323:46
 enum-told : tie.Need-enum-told
 enum-told c = search needs
 
--- src/lib.rt:323:46
 condition-of-requires : tie.Need-condition-of-requires
 condition-of-requires c κs = search needs
 
--- src/lib.rt:324:29
 enum-told-2 : tie.Need-enum-told-2
 enum-told-2 c = search needs
 
--- src/lib.rt:319:1
 returns : tie.Need-returns
 returns c = simp (c .condition-of .ensures, c .before .enum-told .given .1)
 
--- src/lib.rt:319:1
 returns-2 : tie.Need-returns-2
 returns-2 c = search needs
 

@@ -9,19 +9,13 @@ use Rattle.word.specs.Word.{padded}
 use borrow.Author.Needs.{needs}
 use Rattle.line.proofs.find_command.Statement.{statement}
 use Rattle.line.proofs.find_command.Tie as tie
-use Rattle.line.proofs.find_command.Reads as reads
-use Rattle.line.proofs.find_command.Lts as lts
-use Rattle.word.proofs.seek_word.Reads as seek-word-reads
 
--- src/lib.rt:200:21
 slice-aggregate-seek-word : tie.Need-slice-aggregate-seek-word
 slice-aggregate-seek-word c = search needs
 
--- src/lib.rt:200:5
 seek-word-requires : tie.Need-seek-word-requires
 seek-word-requires c κs = search needs
 
--- src/lib.rt:197:1
 returns : tie.Need-returns
 unfolding commandWords commands padded tagCommand
 returns c = c .seek-word .ensures

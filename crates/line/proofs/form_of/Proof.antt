@@ -7,50 +7,39 @@ use Rattle.line.specs.Command.{conditionOf, sweepOf, actOf, packOf, head
 use Rattle.line.specs.Line.{argumentsAt, lower, lowest, meaning, judged}
 use Rattle.line.proofs.form_of.Statement.{statement}
 use Rattle.line.proofs.form_of.Tie as tie
-use Rattle.line.proofs.form_of.Reads as reads
-use Rattle.line.proofs.form_of.Lts as lts
 
--- src/lib.rt:203:1
 returns : tie.Need-returns
 unfolding formOf
 returns c = ap formOf (sym (c .match .keys1))
 
--- src/lib.rt:203:1
 returns-2 : tie.Need-returns-2
 unfolding formOf
 returns-2 c = ap formOf (sym (c .match .keys2))
 
--- src/lib.rt:203:1
 returns-3 : tie.Need-returns-3
 unfolding formOf
 returns-3 c = ap formOf (sym (c .match .keys3))
 
--- src/lib.rt:203:1
 returns-4 : tie.Need-returns-4
 unfolding formOf
 returns-4 c = ap formOf (sym (c .match .keys4))
 
--- src/lib.rt:203:1
 returns-5 : tie.Need-returns-5
 unfolding formOf
 returns-5 c = ap formOf (sym (c .match .keys5))
 
--- src/lib.rt:203:1
 returns-6 : tie.Need-returns-6
 unfolding formOf
 returns-6 c = ap formOf (sym (c .match .keys6))
 
--- src/lib.rt:203:1
 returns-7 : tie.Need-returns-7
 unfolding formOf
 returns-7 c = ap formOf (sym (c .match .keys7))
 
--- src/lib.rt:203:1
 returns-8 : tie.Need-returns-8
 unfolding formOf
 returns-8 c = ap formOf (sym (c .match .keys8))
 
--- src/lib.rt:203:1
 returns-9 : tie.Need-returns-9
 unfolding formOf
 returns-9 c = rw (ne-eqb (c .before .args .letter) 119 (c .match .rest .0 .0 .0 .0 .0 .0 .0 .1), ne-eqb (c .before .args .letter) 118 (c .match .rest .0 .0 .0 .0 .0 .0 .1), ne-eqb (c .before .args .letter) 120 (c .match .rest .0 .0 .0 .0 .0 .1), ne-eqb (c .before .args .letter) 108 (c .match .rest .0 .0 .0 .0 .1), ne-eqb (c .before .args .letter) 116 (c .match .rest .0 .0 .0 .1), ne-eqb (c .before .args .letter) 110 (c .match .rest .0 .0 .1), ne-eqb (c .before .args .letter) 111 (c .match .rest .0 .1), ne-eqb (c .before .args .letter) 115 (c .match .rest .1)) refl
@@ -59,12 +48,4 @@ pub form-of-spec : {M : Type 1} → statement M
 form-of-spec =
     tie.close
     (tie.spec
-    returns
-    returns-2
-    returns-3
-    returns-4
-    returns-5
-    returns-6
-    returns-7
-    returns-8
-    returns-9)
+    returns returns-2 returns-3 returns-4 returns-5 returns-6 returns-7 returns-8 returns-9)

@@ -10,150 +10,119 @@ use Prim.Native.Nat.{ℕ}
 use Rattle.line.proofs.Rows as L
 use Rattle.line.proofs.make_at.Statement.{statement}
 use Rattle.line.proofs.make_at.Tie as tie
-use Rattle.line.proofs.make_at.Reads as reads
-use Rattle.line.proofs.make_at.Lts as lts
 
--- src/lib.rt:151:1
 returns : tie.Need-returns
 unfolding commandAt commands
 returns c = ap (λ (k : ℕ). commandAt k .make) (sym (c .match .keys1))
 
--- src/lib.rt:151:1
 returns-2 : tie.Need-returns-2
 unfolding commandAt commands
 returns-2 c = ap (λ (k : ℕ). commandAt k .make) (sym (c .match .keys2))
 
--- src/lib.rt:151:1
 returns-3 : tie.Need-returns-3
 unfolding commandAt commands
 returns-3 c = ap (λ (k : ℕ). commandAt k .make) (sym (c .match .keys3))
 
--- src/lib.rt:151:1
 returns-4 : tie.Need-returns-4
 unfolding commandAt commands
 returns-4 c = ap (λ (k : ℕ). commandAt k .make) (sym (c .match .keys4))
 
--- src/lib.rt:151:1
 returns-5 : tie.Need-returns-5
 unfolding commandAt commands
 returns-5 c = ap (λ (k : ℕ). commandAt k .make) (sym (c .match .keys5))
 
--- src/lib.rt:151:1
 returns-6 : tie.Need-returns-6
 unfolding commandAt commands
 returns-6 c = ap (λ (k : ℕ). commandAt k .make) (sym (c .match .keys6))
 
--- src/lib.rt:151:1
 returns-7 : tie.Need-returns-7
 unfolding commandAt commands
 returns-7 c = ap (λ (k : ℕ). commandAt k .make) (sym (c .match .keys7))
 
--- src/lib.rt:151:1
 returns-8 : tie.Need-returns-8
 unfolding commandAt commands
 returns-8 c = ap (λ (k : ℕ). commandAt k .make) (sym (c .match .keys8))
 
--- src/lib.rt:151:1
 returns-9 : tie.Need-returns-9
 unfolding commandAt commands
 returns-9 c = ap (λ (k : ℕ). commandAt k .make) (sym (c .match .keys9))
 
--- src/lib.rt:151:1
 returns-10 : tie.Need-returns-10
 unfolding commandAt commands
 returns-10 c = ap (λ (k : ℕ). commandAt k .make) (sym (c .match .keys10))
 
--- src/lib.rt:151:1
 returns-11 : tie.Need-returns-11
 unfolding commandAt commands
 returns-11 c = ap (λ (k : ℕ). commandAt k .make) (sym (c .match .keys11))
 
--- src/lib.rt:151:1
 returns-12 : tie.Need-returns-12
 unfolding commandAt commands
 returns-12 c = ap (λ (k : ℕ). commandAt k .make) (sym (c .match .keys12))
 
--- src/lib.rt:151:1
 returns-13 : tie.Need-returns-13
 unfolding commandAt commands
 returns-13 c = ap (λ (k : ℕ). commandAt k .make) (sym (c .match .keys13))
 
--- src/lib.rt:151:1
 returns-14 : tie.Need-returns-14
 unfolding commandAt commands
 returns-14 c = ap (λ (k : ℕ). commandAt k .make) (sym (c .match .keys14))
 
--- src/lib.rt:151:1
 returns-15 : tie.Need-returns-15
 unfolding commandAt commands
 returns-15 c = ap (λ (k : ℕ). commandAt k .make) (sym (c .match .keys15))
 
--- src/lib.rt:151:1
 returns-16 : tie.Need-returns-16
 unfolding commandAt commands
 returns-16 c = ap (λ (k : ℕ). commandAt k .make) (sym (c .match .keys16))
 
--- src/lib.rt:151:1
 returns-17 : tie.Need-returns-17
 unfolding commandAt commands
 returns-17 c = ap (λ (k : ℕ). commandAt k .make) (sym (c .match .keys17))
 
--- src/lib.rt:151:1
 returns-18 : tie.Need-returns-18
 unfolding commandAt commands
 returns-18 c = ap (λ (k : ℕ). commandAt k .make) (sym (c .match .keys18))
 
--- src/lib.rt:151:1
 returns-19 : tie.Need-returns-19
 unfolding commandAt commands
 returns-19 c = ap (λ (k : ℕ). commandAt k .make) (sym (c .match .keys19))
 
--- src/lib.rt:151:1
 returns-20 : tie.Need-returns-20
 unfolding commandAt commands
 returns-20 c = ap (λ (k : ℕ). commandAt k .make) (sym (c .match .keys20))
 
--- src/lib.rt:151:1
 returns-21 : tie.Need-returns-21
 unfolding commandAt commands
 returns-21 c = ap (λ (k : ℕ). commandAt k .make) (sym (c .match .keys21))
 
--- src/lib.rt:151:1
 returns-22 : tie.Need-returns-22
 unfolding commandAt commands
 returns-22 c = ap (λ (k : ℕ). commandAt k .make) (sym (c .match .keys22))
 
--- src/lib.rt:151:1
 returns-23 : tie.Need-returns-23
 unfolding commandAt commands
 returns-23 c = ap (λ (k : ℕ). commandAt k .make) (sym (c .match .keys23))
 
--- src/lib.rt:151:1
 returns-24 : tie.Need-returns-24
 unfolding commandAt commands
 returns-24 c = ap (λ (k : ℕ). commandAt k .make) (sym (c .match .keys24))
 
--- src/lib.rt:151:1
 returns-25 : tie.Need-returns-25
 unfolding commandAt commands
 returns-25 c = ap (λ (k : ℕ). commandAt k .make) (sym (c .match .keys25))
 
--- src/lib.rt:151:1
 returns-26 : tie.Need-returns-26
 unfolding commandAt commands
 returns-26 c = ap (λ (k : ℕ). commandAt k .make) (sym (c .match .keys26))
 
--- src/lib.rt:151:1
 returns-27 : tie.Need-returns-27
 unfolding commandAt commands
 returns-27 c = ap (λ (k : ℕ). commandAt k .make) (sym (c .match .keys27))
 
--- src/lib.rt:151:1
 returns-28 : tie.Need-returns-28
 unfolding commandAt commands
 returns-28 c = ap (λ (k : ℕ). commandAt k .make) (sym (c .match .keys28))
 
--- src/lib.rt:151:1
 returns-29 : tie.Need-returns-29
 returns-29 c = L.last-make (c .before .args .k) (L.up 27 (c .before .args .k) (L.up 26 (c .before .args .k) (L.up 25 (c .before .args .k) (L.up 24 (c .before .args .k) (L.up 23 (c .before .args .k) (L.up 22 (c .before .args .k) (L.up 21 (c .before .args .k) (L.up 20 (c .before .args .k) (L.up 19 (c .before .args .k) (L.up 18 (c .before .args .k) (L.up 17 (c .before .args .k) (L.up 16 (c .before .args .k) (L.up 15 (c .before .args .k) (L.up 14 (c .before .args .k) (L.up 13 (c .before .args .k) (L.up 12 (c .before .args .k) (L.up 11 (c .before .args .k) (L.up 10 (c .before .args .k) (L.up 9 (c .before .args .k) (L.up 8 (c .before .args .k) (L.up 7 (c .before .args .k) (L.up 6 (c .before .args .k) (L.up 5 (c .before .args .k) (L.up 4 (c .before .args .k) (L.up 3 (c .before .args .k) (L.up 2 (c .before .args .k) (L.up 1 (c .before .args .k) (L.up 0 (c .before .args .k) (omega arith) (c .match .rest .0 .0 .0 .0 .0 .0 .0 .0 .0 .0 .0 .0 .0 .0 .0 .0 .0 .0 .0 .0 .0 .0 .0 .0 .0 .0 .0 .1)) (c .match .rest .0 .0 .0 .0 .0 .0 .0 .0 .0 .0 .0 .0 .0 .0 .0 .0 .0 .0 .0 .0 .0 .0 .0 .0 .0 .0 .1)) (c .match .rest .0 .0 .0 .0 .0 .0 .0 .0 .0 .0 .0 .0 .0 .0 .0 .0 .0 .0 .0 .0 .0 .0 .0 .0 .0 .1)) (c .match .rest .0 .0 .0 .0 .0 .0 .0 .0 .0 .0 .0 .0 .0 .0 .0 .0 .0 .0 .0 .0 .0 .0 .0 .0 .1)) (c .match .rest .0 .0 .0 .0 .0 .0 .0 .0 .0 .0 .0 .0 .0 .0 .0 .0 .0 .0 .0 .0 .0 .0 .0 .1)) (c .match .rest .0 .0 .0 .0 .0 .0 .0 .0 .0 .0 .0 .0 .0 .0 .0 .0 .0 .0 .0 .0 .0 .0 .1)) (c .match .rest .0 .0 .0 .0 .0 .0 .0 .0 .0 .0 .0 .0 .0 .0 .0 .0 .0 .0 .0 .0 .0 .1)) (c .match .rest .0 .0 .0 .0 .0 .0 .0 .0 .0 .0 .0 .0 .0 .0 .0 .0 .0 .0 .0 .0 .1)) (c .match .rest .0 .0 .0 .0 .0 .0 .0 .0 .0 .0 .0 .0 .0 .0 .0 .0 .0 .0 .0 .1)) (c .match .rest .0 .0 .0 .0 .0 .0 .0 .0 .0 .0 .0 .0 .0 .0 .0 .0 .0 .0 .1)) (c .match .rest .0 .0 .0 .0 .0 .0 .0 .0 .0 .0 .0 .0 .0 .0 .0 .0 .0 .1)) (c .match .rest .0 .0 .0 .0 .0 .0 .0 .0 .0 .0 .0 .0 .0 .0 .0 .0 .1)) (c .match .rest .0 .0 .0 .0 .0 .0 .0 .0 .0 .0 .0 .0 .0 .0 .0 .1)) (c .match .rest .0 .0 .0 .0 .0 .0 .0 .0 .0 .0 .0 .0 .0 .0 .1)) (c .match .rest .0 .0 .0 .0 .0 .0 .0 .0 .0 .0 .0 .0 .0 .1)) (c .match .rest .0 .0 .0 .0 .0 .0 .0 .0 .0 .0 .0 .0 .1)) (c .match .rest .0 .0 .0 .0 .0 .0 .0 .0 .0 .0 .0 .1)) (c .match .rest .0 .0 .0 .0 .0 .0 .0 .0 .0 .0 .1)) (c .match .rest .0 .0 .0 .0 .0 .0 .0 .0 .0 .1)) (c .match .rest .0 .0 .0 .0 .0 .0 .0 .0 .1)) (c .match .rest .0 .0 .0 .0 .0 .0 .0 .1)) (c .match .rest .0 .0 .0 .0 .0 .0 .1)) (c .match .rest .0 .0 .0 .0 .0 .1)) (c .match .rest .0 .0 .0 .0 .1)) (c .match .rest .0 .0 .0 .1)) (c .match .rest .0 .0 .1)) (c .match .rest .0 .1)) (c .match .rest .1))
 
@@ -161,32 +130,7 @@ pub make-at-spec : {M : Type 1} → statement M
 make-at-spec =
     tie.close
     (tie.spec
-    returns
-    returns-2
-    returns-3
-    returns-4
-    returns-5
-    returns-6
-    returns-7
-    returns-8
-    returns-9
-    returns-10
-    returns-11
-    returns-12
-    returns-13
-    returns-14
-    returns-15
-    returns-16
-    returns-17
-    returns-18
-    returns-19
-    returns-20
-    returns-21
-    returns-22
-    returns-23
-    returns-24
-    returns-25
-    returns-26
-    returns-27
-    returns-28
-    returns-29)
+    returns returns-2 returns-3 returns-4 returns-5 returns-6 returns-7 returns-8 returns-9
+    returns-10 returns-11 returns-12 returns-13 returns-14 returns-15 returns-16 returns-17
+    returns-18 returns-19 returns-20 returns-21 returns-22 returns-23 returns-24 returns-25
+    returns-26 returns-27 returns-28 returns-29)

@@ -8,35 +8,25 @@ use Rattle.line.specs.Line.{argumentsAt, lower, lowest, meaning, judged}
 use borrow.Author.Needs.{needs}
 use Rattle.line.proofs.pack_of.Statement.{statement}
 use Rattle.line.proofs.pack_of.Tie as tie
-use Rattle.line.proofs.pack_of.Reads as reads
-use Rattle.line.proofs.pack_of.Lts as lts
-use Rattle.argument.proofs.name_of.Reads as name-of-reads
 
--- src/lib.rt:300:28
 enum-told : tie.Need-enum-told
 enum-told c = search needs
 
--- src/lib.rt:301:36
 enum-told-2 : tie.Need-enum-told-2
 enum-told-2 c = search needs
 
--- src/lib.rt:301:36
 name-of-requires : tie.Need-name-of-requires
 name-of-requires c κs = search needs
 
--- src/lib.rt:302:26
 enum-told-3 : tie.Need-enum-told-3
 enum-told-3 c = search needs
 
--- src/lib.rt:296:1
 returns : tie.Need-returns
 returns c = search needs
 
--- src/lib.rt:296:1
 returns-2 : tie.Need-returns-2
 returns-2 c = simp (c .name-of .ensures, c .before .enum-told2 .given .1)
 
--- src/lib.rt:296:1
 returns-3 : tie.Need-returns-3
 returns-3 c = search needs
 

@@ -9,88 +9,64 @@ use Rattle.line.specs.Line.{argumentsAt, lower, lowest, meaning, judged}
 use borrow.Author.Needs.{needs}
 use Rattle.line.proofs.say_all.Statement.{statement}
 use Rattle.line.proofs.say_all.Tie as tie
-use Rattle.line.proofs.say_all.Reads as reads
-use Rattle.line.proofs.say_all.Lts as lts
-use Rattle.argument.proofs.say_at.Reads as say-at-reads
-use Rattle.line.proofs.form_of.Reads as form-of-reads
 
--- src/lib.rt:223:22
 array-read-form-of : tie.Need-array-read-form-of
 array-read-form-of c = search needs
 
--- src/lib.rt:223:9
 form-of-requires : tie.Need-form-of-requires
 form-of-requires c κs = search needs
 
--- src/lib.rt:224:22
 array-read-form-of-2 : tie.Need-array-read-form-of-2
 array-read-form-of-2 c = search needs
 
--- src/lib.rt:224:9
 form-of-requires-2 : tie.Need-form-of-requires-2
 form-of-requires-2 c κs = search needs
 
--- src/lib.rt:225:22
 array-read-form-of-3 : tie.Need-array-read-form-of-3
 array-read-form-of-3 c = search needs
 
--- src/lib.rt:225:9
 form-of-requires-3 : tie.Need-form-of-requires-3
 form-of-requires-3 c κs = search needs
 
--- src/lib.rt:226:22
 array-read-form-of-4 : tie.Need-array-read-form-of-4
 array-read-form-of-4 c = search needs
 
--- src/lib.rt:226:9
 form-of-requires-4 : tie.Need-form-of-requires-4
 form-of-requires-4 c κs = search needs
 
--- src/lib.rt:227:22
 array-read-form-of-5 : tie.Need-array-read-form-of-5
 array-read-form-of-5 c = search needs
 
--- src/lib.rt:227:9
 form-of-requires-5 : tie.Need-form-of-requires-5
 form-of-requires-5 c κs = search needs
 
--- src/lib.rt:228:22
 array-read-form-of-6 : tie.Need-array-read-form-of-6
 array-read-form-of-6 c = search needs
 
--- src/lib.rt:228:9
 form-of-requires-6 : tie.Need-form-of-requires-6
 form-of-requires-6 c κs = search needs
 
--- src/lib.rt:229:9
 say-at-requires : tie.Need-say-at-requires
 say-at-requires c κs = search needs
 
--- src/lib.rt:230:9
 say-at-requires-2 : tie.Need-say-at-requires-2
 say-at-requires-2 c κs = search needs
 
--- src/lib.rt:231:9
 say-at-requires-3 : tie.Need-say-at-requires-3
 say-at-requires-3 c κs = search needs
 
--- src/lib.rt:232:9
 say-at-requires-4 : tie.Need-say-at-requires-4
 say-at-requires-4 c κs = search needs
 
--- src/lib.rt:233:9
 say-at-requires-5 : tie.Need-say-at-requires-5
 say-at-requires-5 c κs = search needs
 
--- src/lib.rt:234:9
 say-at-requires-6 : tie.Need-say-at-requires-6
 say-at-requires-6 c κs = search needs
 
--- src/lib.rt:235:9
 say-at-requires-7 : tie.Need-say-at-requires-7
 say-at-requires-7 c κs = search needs
 
--- src/lib.rt:220:1
 returns : tie.Need-returns
 returns c = L.all (c .before .before .before .before .before .before .before .before .before .before .before .before .before .before .args .names .now) (c .before .before .before .before .before .before .before .before .before .before .before .before .before .before .args .line .now) (c .before .before .before .before .before .before .before .before .before .before .before .before .before .before .args .t1) (c .before .before .before .before .before .before .before .before .before .before .before .before .before .before .args .at)
     (c .before .before .before .before .before .before .before .before .before .before .before .before .form-of .result) (c .before .before .before .before .before .before .before .before .before .before .before .form-of2 .result) (c .before .before .before .before .before .before .before .before .before .before .form-of3 .result) (c .before .before .before .before .before .before .before .before .before .form-of4 .result) (c .before .before .before .before .before .before .before .before .form-of5 .result) (c .before .before .before .before .before .before .before .form-of6 .result)
@@ -102,23 +78,8 @@ pub say-all-spec : {M : Type 1} → statement M
 say-all-spec =
     tie.close
     (tie.spec
-    array-read-form-of
-    form-of-requires
-    array-read-form-of-2
-    form-of-requires-2
-    array-read-form-of-3
-    form-of-requires-3
-    array-read-form-of-4
-    form-of-requires-4
-    array-read-form-of-5
-    form-of-requires-5
-    array-read-form-of-6
-    form-of-requires-6
-    say-at-requires
-    say-at-requires-2
-    say-at-requires-3
-    say-at-requires-4
-    say-at-requires-5
-    say-at-requires-6
-    say-at-requires-7
+    array-read-form-of form-of-requires array-read-form-of-2 form-of-requires-2 array-read-form-of-3
+    form-of-requires-3 array-read-form-of-4 form-of-requires-4 array-read-form-of-5
+    form-of-requires-5 array-read-form-of-6 form-of-requires-6 say-at-requires say-at-requires-2
+    say-at-requires-3 say-at-requires-4 say-at-requires-5 say-at-requires-6 say-at-requires-7
     returns)

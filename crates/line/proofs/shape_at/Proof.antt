@@ -10,23 +10,17 @@ use Rattle.line.proofs.Rows as L
 use borrow.Author.Needs.{needs}
 use Rattle.line.proofs.shape_at.Statement.{statement}
 use Rattle.line.proofs.shape_at.Tie as tie
-use Rattle.line.proofs.shape_at.Reads as reads
-use Rattle.line.proofs.shape_at.Lts as lts
 
--- src/lib.rt:191:16
 mul-result : tie.Need-mul-result
 mul-result c = search needs
 
--- src/lib.rt:191:16
 array-copy-out-result : tie.Need-array-copy-out-result
 array-copy-out-result c = search needs
 
--- src/lib.rt:191:9
 returns : tie.Need-returns
 unfolding commands tagCommand padded
 returns c = L.shape-row (c .before .before .args .k) (c .before .if1 .taken)
 
--- src/lib.rt:187:1
 returns-2 : tie.Need-returns-2
 returns-2 c = L.past-shape (c .before .args .k) (c .if1 .left)
 

@@ -8,36 +8,25 @@ use Rattle.line.specs.Line.{argumentsAt, lower, lowest, meaning, judged}
 use borrow.Author.Needs.{needs}
 use Rattle.line.proofs.sweep_of.Statement.{statement}
 use Rattle.line.proofs.sweep_of.Tie as tie
-use Rattle.line.proofs.sweep_of.Reads as reads
-use Rattle.line.proofs.sweep_of.Lts as lts
-use Rattle.argument.proofs.name_of.Reads as name-of-reads
-use Rattle.argument.proofs.operand_of.Reads as operand-of-reads
 
--- src/lib.rt:266:9
 name-of-requires : tie.Need-name-of-requires
 name-of-requires c κs = search needs
 
--- src/lib.rt:267:9
 name-of-requires-2 : tie.Need-name-of-requires-2
 name-of-requires-2 c κs = search needs
 
--- src/lib.rt:268:9
 operand-of-requires : tie.Need-operand-of-requires
 operand-of-requires c κs = search needs
 
--- src/lib.rt:269:9
 operand-of-requires-2 : tie.Need-operand-of-requires-2
 operand-of-requires-2 c κs = search needs
 
--- src/lib.rt:270:9
 operand-of-requires-3 : tie.Need-operand-of-requires-3
 operand-of-requires-3 c κs = search needs
 
--- src/lib.rt:271:9
 operand-of-requires-4 : tie.Need-operand-of-requires-4
 operand-of-requires-4 c κs = search needs
 
--- src/lib.rt:257:1
 returns : tie.Need-returns
 returns c = simp (c .operand-of4 .ensures, c .before .operand-of3 .ensures, c .before .before .operand-of2 .ensures, c .before .before .before .operand-of .ensures, c .before .before .before .before .name-of2 .ensures, c .before .before .before .before .before .name-of .ensures)
 
@@ -45,10 +34,5 @@ pub sweep-of-spec : {M : Type 1} → statement M
 sweep-of-spec =
     tie.close
     (tie.spec
-    name-of-requires
-    name-of-requires-2
-    operand-of-requires
-    operand-of-requires-2
-    operand-of-requires-3
-    operand-of-requires-4
-    returns)
+    name-of-requires name-of-requires-2 operand-of-requires operand-of-requires-2
+    operand-of-requires-3 operand-of-requires-4 returns)

@@ -9,23 +9,16 @@ use Rattle.line.specs.Line.{argumentsAt, lower, lowest, meaning, judged}
 use borrow.Author.Needs.{needs}
 use Rattle.line.proofs.worse_of.Statement.{statement}
 use Rattle.line.proofs.worse_of.Tie as tie
-use Rattle.line.proofs.worse_of.Reads as reads
-use Rattle.line.proofs.worse_of.Lts as lts
-use Rattle.argument.proofs.wrong_of.Reads as wrong-of-reads
 
--- src/lib.rt:350:8
 wrong-of-requires : tie.Need-wrong-of-requires
 wrong-of-requires c κs = search needs
 
--- src/lib.rt:350:32
 wrong-of-requires-2 : tie.Need-wrong-of-requires-2
 wrong-of-requires-2 c κs = search needs
 
--- src/lib.rt:351:9
 returns : tie.Need-returns
 returns c = L.lower-left _ _ _ _ (c .before .before .wrong-of .ensures) (c .before .wrong-of2 .ensures) (c .if1 .taken)
 
--- src/lib.rt:347:1
 returns-2 : tie.Need-returns-2
 returns-2 c = L.lower-right _ _ _ _ (c .before .before .wrong-of .ensures) (c .before .wrong-of2 .ensures) (c .if1 .left)
 

@@ -8,35 +8,25 @@ use Rattle.line.specs.Line.{argumentsAt, lower, lowest, meaning, judged}
 use borrow.Author.Needs.{needs}
 use Rattle.line.proofs.worst_of.Statement.{statement}
 use Rattle.line.proofs.worst_of.Tie as tie
-use Rattle.line.proofs.worst_of.Reads as reads
-use Rattle.line.proofs.worst_of.Lts as lts
-use Rattle.line.proofs.worse_of.Reads as worse-of-reads
 
--- src/lib.rt:367:9
 worse-of-requires : tie.Need-worse-of-requires
 worse-of-requires c κs = search needs
 
--- src/lib.rt:368:9
 worse-of-requires-2 : tie.Need-worse-of-requires-2
 worse-of-requires-2 c κs = search needs
 
--- src/lib.rt:369:9
 worse-of-requires-3 : tie.Need-worse-of-requires-3
 worse-of-requires-3 c κs = search needs
 
--- src/lib.rt:370:9
 worse-of-requires-4 : tie.Need-worse-of-requires-4
 worse-of-requires-4 c κs = search needs
 
--- src/lib.rt:371:9
 worse-of-requires-5 : tie.Need-worse-of-requires-5
 worse-of-requires-5 c κs = search needs
 
--- src/lib.rt:372:5
 worse-of-requires-6 : tie.Need-worse-of-requires-6
 worse-of-requires-6 c κs = search needs
 
--- src/lib.rt:357:1
 returns : tie.Need-returns
 unfolding lowest
 returns c = simp (c .worse-of6 .ensures, c .before .worse-of5 .ensures, c .before .before .worse-of4 .ensures, c .before .before .before .worse-of3 .ensures, c .before .before .before .before .worse-of2 .ensures, c .before .before .before .before .before .worse-of .ensures)
@@ -45,10 +35,5 @@ pub worst-of-spec : {M : Type 1} → statement M
 worst-of-spec =
     tie.close
     (tie.spec
-    worse-of-requires
-    worse-of-requires-2
-    worse-of-requires-3
-    worse-of-requires-4
-    worse-of-requires-5
-    worse-of-requires-6
-    returns)
+    worse-of-requires worse-of-requires-2 worse-of-requires-3 worse-of-requires-4
+    worse-of-requires-5 worse-of-requires-6 returns)

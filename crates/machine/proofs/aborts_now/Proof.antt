@@ -4,18 +4,13 @@ use borrow.Author.Tests.{not-true, not-false}
 use mathlib.Core.Path.{sym, ap, _∙_}
 use Rattle.machine.proofs.aborts_now.Statement.{statement}
 use Rattle.machine.proofs.aborts_now.Tie as tie
-use Rattle.machine.proofs.aborts_now.Reads as reads
-use Rattle.machine.proofs.aborts_now.Lts as lts
 
--- src/lib.rt:1537:9
 returns : tie.Need-returns
 returns c = rw (not-true (c .before .args .m .pending) (c .if1 .taken))
 
--- src/lib.rt:1540:9
 returns-2 : tie.Need-returns-2
 returns-2 c = rw (not-false (c .before .before .args .m .pending) (c .before .if1 .left), c .if2 .taken)
 
--- src/lib.rt:1531:1
 returns-3 : tie.Need-returns-3
 returns-3 c = rw (not-false (c .before .before .args .m .pending) (c .before .if1 .left), c .if2 .left)
 

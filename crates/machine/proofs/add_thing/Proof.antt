@@ -4,22 +4,16 @@ use native.Mathlib.Omega.{arith}
 use borrow.Author.Needs.{needs}
 use Rattle.machine.proofs.add_thing.Statement.{statement}
 use Rattle.machine.proofs.add_thing.Tie as tie
-use Rattle.machine.proofs.add_thing.Reads as reads
-use Rattle.machine.proofs.add_thing.Lts as lts
 
--- src/lib.rt:625:5
 mul-t6 : tie.Need-mul-t6
 mul-t6 c = search needs
 
--- src/lib.rt:625:5
 element-set-from-t : tie.Need-element-set-from-t
 element-set-from-t c = search needs
 
--- src/lib.rt:626:15
 add-t : tie.Need-add-t
 add-t c = search needs
 
--- src/lib.rt:619:1
 returns : tie.Need-returns
 returns c = (add-thing (c .args .h .things) (c .args .h .count) (c .args .w) (omega (arith, simp length-map at (c .good .0 .1 .1 .0 .1 .0 .1), c .pre)), search needs)
 

@@ -9,9 +9,6 @@ use mathlib.Core.Path.{_≡_, refl, sym, ap, _∙_}
 use Prim.Native.Nat.{_-_, _≤_}
 use Rattle.machine.proofs.any_sweep.Statement.{statement}
 use Rattle.machine.proofs.any_sweep.Tie as tie
-use Rattle.machine.proofs.any_sweep.Reads as reads
-use Rattle.machine.proofs.any_sweep.Lts as lts
-use Rattle.machine.proofs.sweep_at.Reads as sweep-at-reads
 
 abbrev Inv-loop : tie.InvT-loop
 Inv-loop marks m k₀ k = (k ≤ 8) × Seen (marks .at) (λ xs. anyOpen isSweep xs (tops (m .boxes) (m .depth)) ≡ anyOpen isSweep xs (tops (m .boxes) k))
@@ -19,43 +16,33 @@ Inv-loop marks m k₀ k = (k ≤ 8) × Seen (marks .at) (λ xs. anyOpen isSweep 
 abbrev μ-loop : tie.MeasureT-loop
 μ-loop marks m k₀ k = k
 
--- src/lib.rt:587:5
 loop-holds : tie.Need-loop-holds Inv-loop μ-loop
 loop-holds c = (c .pre, λ xs k. refl)
 
--- src/lib.rt:588:25
 sub-p : tie.Need-sub-p Inv-loop μ-loop
 sub-p c = search needs
 
--- src/lib.rt:588:17
 mul-p : tie.Need-mul-p Inv-loop μ-loop
 mul-p c = search needs
 
--- src/lib.rt:588:17
 element-copy-out-p : tie.Need-element-copy-out-p Inv-loop μ-loop
 element-copy-out-p c = search needs
 
--- src/lib.rt:589:12
 sweep-at-requires : tie.Need-sweep-at-requires Inv-loop μ-loop
 sweep-at-requires c κs = search needs
 
--- src/lib.rt:590:13
 returns : tie.Need-returns Inv-loop μ-loop
 returns c = λ xs k. sym (c .before .before .before .before .loop .inv .1 xs k ∙ rw (tops-top (c .before .before .before .before .before .args .t2 .boxes) (c .before .before .before .before .loop .k) (λ e. omega (arith, c .before .before .before .loop-test .taken)), ← (c .before .sweep-at .ensures xs k), c .if1 .taken))
 
--- src/lib.rt:592:9
 sub-k : tie.Need-sub-k Inv-loop μ-loop
 sub-k c = search needs
 
--- src/lib.rt:587:5
 loop-less : tie.Need-loop-less Inv-loop μ-loop
 loop-less c = search needs
 
--- src/lib.rt:587:5
 loop-again : tie.Need-loop-again Inv-loop μ-loop
 loop-again c = (search needs, λ xs k. c .before .before .before .before .loop .inv .1 xs k ∙ rw (tops-top (c .before .before .before .before .before .args .t2 .boxes) (c .before .before .before .before .loop .k) (λ e. omega (arith, c .before .before .before .loop-test .taken)), ← (c .before .sweep-at .ensures xs k), c .if1 .left))
 
--- src/lib.rt:582:1
 returns-2 : tie.Need-returns-2 Inv-loop μ-loop
 returns-2 c = λ xs k. sym (c .before .loop .inv .1 xs k ∙ rw (at-zero (c .before .loop .k) (c .loop-test .left)))
 
@@ -63,15 +50,5 @@ pub any-sweep-spec : {M : Type 1} → statement M
 any-sweep-spec =
     tie.close
     (tie.spec
-    Inv-loop
-    μ-loop
-    loop-holds
-    sub-p
-    mul-p
-    element-copy-out-p
-    sweep-at-requires
-    returns
-    sub-k
-    loop-less
-    loop-again
-    returns-2)
+    Inv-loop μ-loop loop-holds sub-p mul-p element-copy-out-p sweep-at-requires returns sub-k
+    loop-less loop-again returns-2)

@@ -1,14 +1,10 @@
 use borrow.Author.Tests.{le-leb, lt-leb}
 use Rattle.machine.proofs.at_most_eight.Statement.{statement}
 use Rattle.machine.proofs.at_most_eight.Tie as tie
-use Rattle.machine.proofs.at_most_eight.Reads as reads
-use Rattle.machine.proofs.at_most_eight.Lts as lts
 
--- src/lib.rt:1740:1
 returns : tie.Need-returns
 returns c = rw (le-leb (c .before .args .n) 8 (c .if1 .taken))
 
--- src/lib.rt:1740:1
 returns-2 : tie.Need-returns-2
 returns-2 c = rw (lt-leb (c .before .args .n) 8 (c .if1 .left))
 

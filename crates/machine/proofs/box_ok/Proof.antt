@@ -4,28 +4,19 @@ use mathlib.Core.Path.{_≡_, sym, ap, _∙_}
 use borrow.Author.Needs.{needs}
 use Rattle.machine.proofs.box_ok.Statement.{statement}
 use Rattle.machine.proofs.box_ok.Tie as tie
-use Rattle.machine.proofs.box_ok.Reads as reads
-use Rattle.machine.proofs.box_ok.Lts as lts
-use Rattle.machine.proofs.close_of.Reads as close-of-reads
-use Rattle.machine.proofs.open_at.Reads as open-at-reads
 
--- src/lib.rt:1634:9
 returns : tie.Need-returns
 returns c = λ xs k e. rw (e, le-ltb (c .before .args .p) (c .before .args .n) (c .if1 .taken))
 
--- src/lib.rt:1636:9
 open-at-requires : tie.Need-open-at-requires
 open-at-requires c κs = search needs
 
--- src/lib.rt:1637:9
 returns-2 : tie.Need-returns-2
 returns-2 c = λ xs k e. rw (e, lt-ltb (c .before .before .before .args .p) (c .before .before .before .args .n) (c .before .before .if1 .left), sym (c .before .open-at .ensures xs k) ∙ not-true (c .before .open-at .result) (c .if2 .taken))
 
--- src/lib.rt:1639:5
 close-of-requires : tie.Need-close-of-requires
 close-of-requires c κs = search needs
 
--- src/lib.rt:1630:1
 returns-3 : tie.Need-returns-3
 returns-3 c = λ xs k e. rw (e, lt-ltb (c .before .before .before .before .args .p) (c .before .before .before .before .args .n) (c .before .before .before .if1 .left), sym (c .before .before .open-at .ensures xs k) ∙ not-false (c .before .before .open-at .result) (c .before .if2 .left), c .close-of .ensures xs k, none-past)
 

@@ -11,9 +11,6 @@ use mathlib.Core.Path.{_≡_, refl, sym, ap, _∙_}
 use Prim.Native.Nat.{_-_, _≤_}
 use Rattle.machine.proofs.choose_mate.Statement.{statement}
 use Rattle.machine.proofs.choose_mate.Tie as tie
-use Rattle.machine.proofs.choose_mate.Reads as reads
-use Rattle.machine.proofs.choose_mate.Lts as lts
-use Rattle.machine.proofs.try_at.Reads as try-at-reads
 
 abbrev Inv-loop : tie.InvT-loop
 Inv-loop script marks m p n j₀ j = choose (slotsOf (m .vars)) p p (boxesAt (itemsOf script) p) (drop p (itemsOf script)) ≡ choose (slotsOf (m .vars)) p j (boxesAt (itemsOf script) j) (drop j (itemsOf script))
@@ -21,38 +18,30 @@ Inv-loop script marks m p n j₀ j = choose (slotsOf (m .vars)) p p (boxesAt (it
 abbrev μ-loop : tie.MeasureT-loop
 μ-loop script marks m p n j₀ j = n - j
 
--- src/lib.rt:930:5
 loop-holds : tie.Need-loop-holds Inv-loop μ-loop
 loop-holds c = refl
 
--- src/lib.rt:931:13
 try-at-requires : tie.Need-try-at-requires Inv-loop μ-loop
 try-at-requires c κs = search needs
 
--- src/lib.rt:932:26
 enum-known-t : tie.Need-enum-known-t Inv-loop μ-loop
 enum-known-t c = search needs
 
--- src/lib.rt:933:13
 returns : tie.Need-returns Inv-loop μ-loop
 returns c = sym (c .before .before .before .before .before .loop .inv ∙ choose-found (itemsOf (c .before .before .before .before .before .before .args .script)) (slotsOf (c .before .before .before .before .before .before .args .m .vars)) (c .before .before .before .before .before .before .args .m .at) (c .before .before .before .before .before .loop .j) (omega (arith, count-items (c .before .before .before .before .before .before .args .script .count) (c .before .before .before .before .before .before .args .script .items) (omega (arith, simp length-map at (c .before .before .before .before .before .before .good .0 .1 .1 .0 .1 .0 .1), c .before .before .before .before .before .before .pre .0)), c .before .before .before .before .loop-test .taken)) (c .before .before .before .try-at .result) (c .before .before .before .try-at .ensures) (c .before .t .given .0 .0) (c .before .t .given .1))
 
 enum-told : tie.Need-enum-told Inv-loop μ-loop
 enum-told c = search needs
 
--- src/lib.rt:935:9
 add-j : tie.Need-add-j Inv-loop μ-loop
 add-j c = search needs
 
--- src/lib.rt:930:5
 loop-less : tie.Need-loop-less Inv-loop μ-loop
 loop-less c = search needs
 
--- src/lib.rt:930:5
 loop-again : tie.Need-loop-again Inv-loop μ-loop
 loop-again c = c .before .before .before .before .loop .inv ∙ choose-onward (itemsOf (c .before .before .before .before .before .args .script)) (slotsOf (c .before .before .before .before .before .args .m .vars)) (c .before .before .before .before .before .args .m .at) (c .before .before .before .before .loop .j) (omega (arith, count-items (c .before .before .before .before .before .args .script .count) (c .before .before .before .before .before .args .script .items) (omega (arith, simp length-map at (c .before .before .before .before .before .good .0 .1 .1 .0 .1 .0 .1), c .before .before .before .before .before .pre .0)), c .before .before .before .loop-test .taken)) (c .before .before .try-at .result) (c .before .before .try-at .ensures) (c .enum-told .given .1)
 
--- src/lib.rt:923:1
 returns-2 : tie.Need-returns-2 Inv-loop μ-loop
 returns-2 c = sym (c .before .loop .inv ∙ choose-none (itemsOf (c .before .before .args .script)) (slotsOf (c .before .before .args .m .vars)) (c .before .before .args .m .at) (c .before .loop .j) (omega (arith, count-items (c .before .before .args .script .count) (c .before .before .args .script .items) (omega (arith, simp length-map at (c .before .before .good .0 .1 .1 .0 .1 .0 .1), c .before .before .pre .0)), c .loop-test .left)))
 
@@ -60,14 +49,5 @@ pub choose-mate-spec : {M : Type 1} → statement M
 choose-mate-spec =
     tie.close
     (tie.spec
-    Inv-loop
-    μ-loop
-    loop-holds
-    try-at-requires
-    enum-known-t
-    returns
-    enum-told
-    add-j
-    loop-less
-    loop-again
-    returns-2)
+    Inv-loop μ-loop loop-holds try-at-requires enum-known-t returns enum-told add-j loop-less
+    loop-again returns-2)

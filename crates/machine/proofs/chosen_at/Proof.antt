@@ -2,67 +2,49 @@ use mathlib.Core.Path.{sym, _∙_}
 use borrow.Author.Needs.{needs}
 use Rattle.machine.proofs.chosen_at.Statement.{statement}
 use Rattle.machine.proofs.chosen_at.Tie as tie
-use Rattle.machine.proofs.chosen_at.Reads as reads
-use Rattle.machine.proofs.chosen_at.Lts as lts
-use Rattle.machine.proofs.chosen_head.Reads as chosen-head-reads
 
--- src/lib.rt:968:25
 enum-told : tie.Need-enum-told
 enum-told c = search needs
 
--- src/lib.rt:969:26
 enum-told-2 : tie.Need-enum-told-2
 enum-told-2 c = search needs
 
--- src/lib.rt:970:20
 enum-known-x : tie.Need-enum-known-x
 enum-known-x c = search needs
 
--- src/lib.rt:970:26
 chosen-head-requires : tie.Need-chosen-head-requires
 chosen-head-requires c κs = search needs
 
--- src/lib.rt:971:28
 enum-told-3 : tie.Need-enum-told-3
 enum-told-3 c = search needs
 
--- src/lib.rt:972:27
 enum-told-4 : tie.Need-enum-told-4
 enum-told-4 c = search needs
 
--- src/lib.rt:973:24
 enum-told-5 : tie.Need-enum-told-5
 enum-told-5 c = search needs
 
--- src/lib.rt:974:22
 enum-told-6 : tie.Need-enum-told-6
 enum-told-6 c = search needs
 
--- src/lib.rt:963:1
 returns : tie.Need-returns
 returns c = simp (c .enum-told .given .1)
 
--- src/lib.rt:963:1
 returns-2 : tie.Need-returns-2
 returns-2 c = simp (c .enum-told2 .given .1)
 
--- src/lib.rt:963:1
 returns-3 : tie.Need-returns-3
 returns-3 c = c .chosen-head .ensures ∙ simp (c .before .before .x .given .1)
 
--- src/lib.rt:963:1
 returns-4 : tie.Need-returns-4
 returns-4 c = simp (c .enum-told3 .given .1)
 
--- src/lib.rt:963:1
 returns-5 : tie.Need-returns-5
 returns-5 c = simp (c .enum-told4 .given .1)
 
--- src/lib.rt:963:1
 returns-6 : tie.Need-returns-6
 returns-6 c = simp (c .enum-told5 .given .1)
 
--- src/lib.rt:963:1
 returns-7 : tie.Need-returns-7
 returns-7 c = simp (c .enum-told6 .given .1)
 
@@ -70,18 +52,5 @@ pub chosen-at-spec : {M : Type 1} → statement M
 chosen-at-spec =
     tie.close
     (tie.spec
-    enum-told
-    enum-told-2
-    enum-known-x
-    chosen-head-requires
-    enum-told-3
-    enum-told-4
-    enum-told-5
-    enum-told-6
-    returns
-    returns-2
-    returns-3
-    returns-4
-    returns-5
-    returns-6
-    returns-7)
+    enum-told enum-told-2 enum-known-x chosen-head-requires enum-told-3 enum-told-4 enum-told-5
+    enum-told-6 returns returns-2 returns-3 returns-4 returns-5 returns-6 returns-7)

@@ -2,35 +2,25 @@ use mathlib.Core.Path.{sym, _∙_}
 use borrow.Author.Needs.{needs}
 use Rattle.machine.proofs.chosen_head.Statement.{statement}
 use Rattle.machine.proofs.chosen_head.Tie as tie
-use Rattle.machine.proofs.chosen_head.Reads as reads
-use Rattle.machine.proofs.chosen_head.Lts as lts
-use Rattle.machine.proofs.chosen_if.Reads as chosen-if-reads
 
--- src/lib.rt:957:18
 enum-known-h : tie.Need-enum-known-h
 enum-known-h c = search needs
 
--- src/lib.rt:957:24
 chosen-if-requires : tie.Need-chosen-if-requires
 chosen-if-requires c κs = search needs
 
--- src/lib.rt:958:26
 enum-told : tie.Need-enum-told
 enum-told c = search needs
 
--- src/lib.rt:959:27
 enum-told-2 : tie.Need-enum-told-2
 enum-told-2 c = search needs
 
--- src/lib.rt:952:1
 returns : tie.Need-returns
 returns c = c .chosen-if .ensures ∙ simp (c .before .before .h .given .1)
 
--- src/lib.rt:952:1
 returns-2 : tie.Need-returns-2
 returns-2 c = simp (c .enum-told .given .1)
 
--- src/lib.rt:952:1
 returns-3 : tie.Need-returns-3
 returns-3 c = simp (c .enum-told2 .given .1)
 

@@ -3,28 +3,19 @@ use mathlib.Core.Path.{sym, ap, _∙_}
 use borrow.Author.Needs.{needs}
 use Rattle.machine.proofs.chosen_if.Statement.{statement}
 use Rattle.machine.proofs.chosen_if.Tie as tie
-use Rattle.machine.proofs.chosen_if.Reads as reads
-use Rattle.machine.proofs.chosen_if.Lts as lts
-use Rattle.machine.proofs.choose_mate.Reads as choose-mate-reads
-use Rattle.machine.proofs.condition_holds.Reads as condition-holds-reads
 
--- src/lib.rt:945:8
 condition-holds-requires : tie.Need-condition-holds-requires
 condition-holds-requires c κs = search needs
 
--- src/lib.rt:946:22
 add-t8 : tie.Need-add-t8
 add-t8 c = search needs
 
--- src/lib.rt:948:9
 choose-mate-requires : tie.Need-choose-mate-requires
 choose-mate-requires c κs = search needs
 
--- src/lib.rt:940:1
 returns : tie.Need-returns
 returns c = rw (add-one, sym (c .before .condition-holds .ensures) ∙ c .if1 .taken)
 
--- src/lib.rt:940:1
 returns-2 : tie.Need-returns-2
 returns-2 c = c .choose-mate .ensures ∙ rw (sym (c .before .before .condition-holds .ensures) ∙ c .before .if1 .left)
 

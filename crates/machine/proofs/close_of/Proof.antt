@@ -9,9 +9,6 @@ use mathlib.Core.Path.{_≡_, refl, sym, ap, _∙_}
 use Prim.Native.Nat.{_-_, _≤_}
 use Rattle.machine.proofs.close_of.Statement.{statement}
 use Rattle.machine.proofs.close_of.Tie as tie
-use Rattle.machine.proofs.close_of.Reads as reads
-use Rattle.machine.proofs.close_of.Lts as lts
-use Rattle.machine.proofs.closes_for.Reads as closes-for-reads
 
 abbrev Inv-loop : tie.InvT-loop
 Inv-loop marks p j₀ j = Seen (marks .at) (λ xs. closeOf xs p ≡ closeFrom p j (boxesAt xs j) (drop j xs))
@@ -19,35 +16,27 @@ Inv-loop marks p j₀ j = Seen (marks .at) (λ xs. closeOf xs p ≡ closeFrom p 
 abbrev μ-loop : tie.MeasureT-loop
 μ-loop marks p j₀ j = 128 - j
 
--- src/lib.rt:570:5
 loop-holds : tie.Need-loop-holds Inv-loop μ-loop
 loop-holds c = λ xs k. refl
 
--- src/lib.rt:571:12
 closes-for-requires : tie.Need-closes-for-requires Inv-loop μ-loop
 closes-for-requires c κs = search needs
 
--- src/lib.rt:572:20
 add-result : tie.Need-add-result Inv-loop μ-loop
 add-result c = search needs
 
--- src/lib.rt:572:13
 returns : tie.Need-returns Inv-loop μ-loop
 returns c = λ xs k. rw (c .before .before .before .loop .inv xs k, close-hit xs (c .before .before .before .before .args .p) (c .before .before .before .loop .j) (sym (c .before .closes-for .ensures xs k) ∙ c .if1 .taken)) (add-one _)
 
--- src/lib.rt:574:9
 add-j : tie.Need-add-j Inv-loop μ-loop
 add-j c = search needs
 
--- src/lib.rt:570:5
 loop-less : tie.Need-loop-less Inv-loop μ-loop
 loop-less c = search needs
 
--- src/lib.rt:570:5
 loop-again : tie.Need-loop-again Inv-loop μ-loop
 loop-again c = λ xs k. c .before .before .before .loop .inv xs k ∙ close-miss xs (c .before .before .before .before .args .p) (c .before .before .before .loop .j) (sym (c .before .closes-for .ensures xs k) ∙ c .if1 .left)
 
--- src/lib.rt:566:1
 returns-2 : tie.Need-returns-2 Inv-loop μ-loop
 returns-2 c = λ xs k. rw (c .before .loop .inv xs k, close-none xs (c .before .before .args .p) (c .before .loop .j) (k .few) (c .loop-test .left))
 
@@ -55,13 +44,5 @@ pub close-of-spec : {M : Type 1} → statement M
 close-of-spec =
     tie.close
     (tie.spec
-    Inv-loop
-    μ-loop
-    loop-holds
-    closes-for-requires
-    add-result
-    returns
-    add-j
-    loop-less
-    loop-again
+    Inv-loop μ-loop loop-holds closes-for-requires add-result returns add-j loop-less loop-again
     returns-2)

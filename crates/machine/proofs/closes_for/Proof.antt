@@ -3,29 +3,19 @@ use mathlib.Core.Path.{sym, ap, _∙_}
 use borrow.Author.Needs.{needs}
 use Rattle.machine.proofs.closes_for.Statement.{statement}
 use Rattle.machine.proofs.closes_for.Tie as tie
-use Rattle.machine.proofs.closes_for.Reads as reads
-use Rattle.machine.proofs.closes_for.Lts as lts
-use Rattle.machine.proofs.belongs_to.Reads as belongs-to-reads
-use Rattle.machine.proofs.mark_at.Reads as mark-at-reads
-use Rattle.machine.proofs.role_closes.Reads as role-closes-reads
 
--- src/lib.rt:556:9
 mark-at-requires : tie.Need-mark-at-requires
 mark-at-requires c κs = search needs
 
--- src/lib.rt:558:8
 role-closes-requires : tie.Need-role-closes-requires
 role-closes-requires c κs = search needs
 
--- src/lib.rt:559:9
 belongs-to-requires : tie.Need-belongs-to-requires
 belongs-to-requires c κs = search needs
 
--- src/lib.rt:553:1
 returns : tie.Need-returns
 returns c = λ xs k. rw (closes-told xs (c .before .before .before .before .args .marks .at) k (c .before .before .before .before .args .j) _ _ _ (c .before .before .before .mark-at .ensures) (c .before .before .role-closes .ensures) (c .before .if1 .taken)) (c .belongs-to .ensures xs k)
 
--- src/lib.rt:553:1
 returns-2 : tie.Need-returns-2
 returns-2 c = λ xs k. rw (closes-told xs (c .before .before .before .args .marks .at) k (c .before .before .before .args .j) _ _ _ (c .before .before .mark-at .ensures) (c .before .role-closes .ensures) (c .if1 .left))
 

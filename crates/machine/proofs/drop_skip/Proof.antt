@@ -1,14 +1,10 @@
 use Rattle.machine.proofs.Tests.{and-no, and-yes}
 use Rattle.machine.proofs.drop_skip.Statement.{statement}
 use Rattle.machine.proofs.drop_skip.Tie as tie
-use Rattle.machine.proofs.drop_skip.Reads as reads
-use Rattle.machine.proofs.drop_skip.Lts as lts
 
--- src/lib.rt:344:1
 returns : tie.Need-returns
 returns c = rw (c .if1 .taken, and-no (c .before .args .m .skip))
 
--- src/lib.rt:344:1
 returns-2 : tie.Need-returns-2
 returns-2 c = rw (c .if1 .left, and-yes (c .before .args .m .skip))
 

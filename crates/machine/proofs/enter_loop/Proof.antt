@@ -7,34 +7,22 @@ use mathlib.Core.Path.{sym, ap, _∙_}
 use borrow.Author.Needs.{needs}
 use Rattle.machine.proofs.enter_loop.Statement.{statement}
 use Rattle.machine.proofs.enter_loop.Tie as tie
-use Rattle.machine.proofs.enter_loop.Reads as reads
-use Rattle.machine.proofs.enter_loop.Lts as lts
-use Rattle.machine.proofs.go_quietly.Reads as go-quietly-reads
-use Rattle.machine.proofs.go_saying.Reads as go-saying-reads
-use Rattle.machine.proofs.push_box.Reads as push-box-reads
-use Rattle.machine.proofs.top_is.Reads as top-is-reads
 
--- src/lib.rt:1185:8
 top-is-requires : tie.Need-top-is-requires
 top-is-requires c κs = few-depth (c .args .m) (c .pre .0)
 
--- src/lib.rt:1186:9
 go-quietly-requires : tie.Need-go-quietly-requires
 go-quietly-requires c κs = search needs
 
--- src/lib.rt:1186:9
 returns : tie.Need-returns
 returns c = c .go-quietly .ensures ∙ enter-again (c .before .before .before .args .s) (runOf (c .before .before .before .args .m)) (sym (c .before .before .top-is .ensures) ∙ c .before .if1 .taken)
 
--- src/lib.rt:1188:15
 push-box-requires : tie.Need-push-box-requires
 push-box-requires c κs = room (c .before .before .args .m) (c .before .before .pre .1) (sym (c .before .top-is .ensures) ∙ c .if1 .left)
 
--- src/lib.rt:1188:5
 go-saying-requires : tie.Need-go-saying-requires
 go-saying-requires c κs = omega (arith, ap (λ (x : Run). x .pc) (c .push-box .ensures), c .before .before .before .pre .0 .within)
 
--- src/lib.rt:1180:1
 returns-2 : tie.Need-returns-2
 returns-2 c = c .go-saying .ensures ∙ ap (λ (x : Run). said (enters (c .before .before .before .before .args .s) ∷ []) (next x)) (c .before .push-box .ensures) ∙ enter-first (c .before .before .before .before .args .s) (runOf (c .before .before .before .before .args .m)) (sym (c .before .before .before .top-is .ensures) ∙ c .before .before .if1 .left)
 
@@ -42,9 +30,4 @@ pub enter-loop-spec : {M : Type 1} → statement M
 enter-loop-spec =
     tie.close
     (tie.spec
-    top-is-requires
-    go-quietly-requires
-    returns
-    push-box-requires
-    go-saying-requires
-    returns-2)
+    top-is-requires go-quietly-requires returns push-box-requires go-saying-requires returns-2)

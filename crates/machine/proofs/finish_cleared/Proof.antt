@@ -7,25 +7,16 @@ use mathlib.Core.Path.{sym, ap, _∙_}
 use borrow.Author.Needs.{needs}
 use Rattle.machine.proofs.finish_cleared.Statement.{statement}
 use Rattle.machine.proofs.finish_cleared.Tie as tie
-use Rattle.machine.proofs.finish_cleared.Reads as reads
-use Rattle.machine.proofs.finish_cleared.Lts as lts
-use Rattle.machine.proofs.clear_boxes.Reads as clear-boxes-reads
-use Rattle.machine.proofs.finish_run.Reads as finish-run-reads
-use Rattle.machine.proofs.leave_all.Reads as leave-all-reads
 
--- src/lib.rt:1492:9
 leave-all-requires : tie.Need-leave-all-requires
 leave-all-requires c κs = few-depth (c .args .m) (c .pre)
 
--- src/lib.rt:1493:24
 clear-boxes-requires : tie.Need-clear-boxes-requires
 clear-boxes-requires c κs = search needs
 
--- src/lib.rt:1493:5
 finish-run-requires : tie.Need-finish-run-requires
 finish-run-requires c κs = search needs
 
--- src/lib.rt:1487:1
 returns : tie.Need-returns
 returns c = λ xs k. c .finish-run .ensures ∙ ap (λ (x : Run). finish (runOf (c .before .before .before .args .before)) x (c .before .before .before .args .o) (handedOf (c .before .before .leave-all .result))) (c .before .clear-boxes .ensures) ∙ ap (λ (os : List Out). finish (runOf (c .before .before .before .args .before)) (cleared (runOf (c .before .before .before .args .m)) (c .before .before .before .args .m .at)) (c .before .before .before .args .o) os) (c .before .before .leave-all .ensures .1 xs k)
 

@@ -3,20 +3,14 @@ use mathlib.Core.Path.{sym, _∙_}
 use borrow.Author.Needs.{needs}
 use Rattle.machine.proofs.finite_float.Statement.{statement}
 use Rattle.machine.proofs.finite_float.Tie as tie
-use Rattle.machine.proofs.finite_float.Reads as reads
-use Rattle.machine.proofs.finite_float.Lts as lts
-use Rattle.value.proofs.is_finite.Reads as is-finite-reads
 
--- src/lib.rt:1072:8
 is-finite-requires : tie.Need-is-finite-requires
 is-finite-requires c κs = search needs
 
--- src/lib.rt:1069:1
 returns : tie.Need-returns
 unfolding checked finite
 returns c = simp (sym (c .before .is-finite .ensures) ∙ c .if1 .taken)
 
--- src/lib.rt:1069:1
 returns-2 : tie.Need-returns-2
 unfolding checked finite
 returns-2 c = simp (sym (c .before .is-finite .ensures) ∙ c .if1 .left)

@@ -9,10 +9,6 @@ use mathlib.Core.Path.{_≡_, refl, sym, ap, _∙_}
 use Prim.Native.Nat.{_-_, _≤_}
 use Rattle.machine.proofs.first_tag.Statement.{statement}
 use Rattle.machine.proofs.first_tag.Tie as tie
-use Rattle.machine.proofs.first_tag.Reads as reads
-use Rattle.machine.proofs.first_tag.Lts as lts
-use Rattle.machine.proofs.is_tag.Reads as is-tag-reads
-use Rattle.table.proofs.slot_at.Reads as slot-at-reads
 
 abbrev Inv-loop : tie.InvT-loop
 Inv-loop script n j₀ j = tagFrom 0 (itemsOf script) ≡ tagFrom j (drop j (itemsOf script))
@@ -20,35 +16,27 @@ Inv-loop script n j₀ j = tagFrom 0 (itemsOf script) ≡ tagFrom j (drop j (ite
 abbrev μ-loop : tie.MeasureT-loop
 μ-loop script n j₀ j = n - j
 
--- src/lib.rt:1394:5
 loop-holds : tie.Need-loop-holds Inv-loop μ-loop
 loop-holds c = refl
 
--- src/lib.rt:1395:13
 slot-at-requires : tie.Need-slot-at-requires Inv-loop μ-loop
 slot-at-requires c κs = search needs
 
--- src/lib.rt:1397:12
 is-tag-requires : tie.Need-is-tag-requires Inv-loop μ-loop
 is-tag-requires c κs = search needs
 
--- src/lib.rt:1398:13
 returns : tie.Need-returns Inv-loop μ-loop
 returns c = sym (c .before .before .before .before .loop .inv ∙ tag-hit (itemsOf (c .before .before .before .before .before .args .script)) (c .before .before .before .before .loop .j) (omega (arith, count-items (c .before .before .before .before .before .args .script .count) (c .before .before .before .before .before .args .script .items) (omega (arith, simp length-map at (c .before .before .before .before .before .good .0 .1 .1 .0 .1 .0 .1), c .before .before .before .before .before .pre)), c .before .before .before .loop-test .taken)) (rw (item-is (c .before .before .before .before .before .args .script .count) (c .before .before .before .before .loop .j) (c .before .before .before .before .before .args .script .items) (c .before .before .before .loop-test .taken) (omega (arith, simp length-map at (c .before .before .before .before .before .good .0 .1 .1 .0 .1 .0 .1), c .before .before .before .loop-test .taken, c .before .before .before .before .before .pre)), ← (c .before .before .slot-at .ensures)) (sym (c .before .is-tag .ensures) ∙ c .if1 .taken)))
 
--- src/lib.rt:1400:9
 add-j : tie.Need-add-j Inv-loop μ-loop
 add-j c = search needs
 
--- src/lib.rt:1394:5
 loop-less : tie.Need-loop-less Inv-loop μ-loop
 loop-less c = search needs
 
--- src/lib.rt:1394:5
 loop-again : tie.Need-loop-again Inv-loop μ-loop
 loop-again c = c .before .before .before .before .loop .inv ∙ tag-miss (itemsOf (c .before .before .before .before .before .args .script)) (c .before .before .before .before .loop .j) (omega (arith, count-items (c .before .before .before .before .before .args .script .count) (c .before .before .before .before .before .args .script .items) (omega (arith, simp length-map at (c .before .before .before .before .before .good .0 .1 .1 .0 .1 .0 .1), c .before .before .before .before .before .pre)), c .before .before .before .loop-test .taken)) (rw (item-is (c .before .before .before .before .before .args .script .count) (c .before .before .before .before .loop .j) (c .before .before .before .before .before .args .script .items) (c .before .before .before .loop-test .taken) (omega (arith, simp length-map at (c .before .before .before .before .before .good .0 .1 .1 .0 .1 .0 .1), c .before .before .before .loop-test .taken, c .before .before .before .before .before .pre)), ← (c .before .before .slot-at .ensures)) (sym (c .before .is-tag .ensures) ∙ c .if1 .left))
 
--- src/lib.rt:1388:1
 returns-2 : tie.Need-returns-2 Inv-loop μ-loop
 returns-2 c = sym (c .before .loop .inv ∙ tag-none (itemsOf (c .before .before .args .script)) (c .before .loop .j) (omega (arith, count-items (c .before .before .args .script .count) (c .before .before .args .script .items) (omega (arith, simp length-map at (c .before .before .good .0 .1 .1 .0 .1 .0 .1), c .before .before .pre)), c .loop-test .left)))
 
@@ -56,13 +44,5 @@ pub first-tag-spec : {M : Type 1} → statement M
 first-tag-spec =
     tie.close
     (tie.spec
-    Inv-loop
-    μ-loop
-    loop-holds
-    slot-at-requires
-    is-tag-requires
-    returns
-    add-j
-    loop-less
-    loop-again
+    Inv-loop μ-loop loop-holds slot-at-requires is-tag-requires returns add-j loop-less loop-again
     returns-2)

@@ -2,20 +2,13 @@ use mathlib.Core.Path.{sym, _∙_}
 use borrow.Author.Needs.{needs}
 use Rattle.machine.proofs.go_saying.Statement.{statement}
 use Rattle.machine.proofs.go_saying.Tie as tie
-use Rattle.machine.proofs.go_saying.Reads as reads
-use Rattle.machine.proofs.go_saying.Lts as lts
-use Rattle.machine.proofs.go_on.Reads as go-on-reads
-use Rattle.machine.proofs.hand_out.Reads as hand-out-reads
 
--- src/lib.rt:1045:14
 go-on-requires : tie.Need-go-on-requires
 go-on-requires c κs = search needs
 
--- src/lib.rt:1045:5
 hand-out-requires : tie.Need-hand-out-requires
 hand-out-requires c κs = search needs
 
--- src/lib.rt:1041:1
 returns : tie.Need-returns
 returns c = c .hand-out .ensures ∙ simp (c .before .go-on .ensures)
 

@@ -2,44 +2,31 @@ use mathlib.Core.Path.{sym, _∙_}
 use borrow.Author.Needs.{needs}
 use Rattle.machine.proofs.keep_result.Statement.{statement}
 use Rattle.machine.proofs.keep_result.Tie as tie
-use Rattle.machine.proofs.keep_result.Reads as reads
-use Rattle.machine.proofs.keep_result.Lts as lts
-use Rattle.machine.proofs.go_writing.Reads as go-writing-reads
-use Rattle.machine.proofs.halt_by.Reads as halt-by-reads
 
--- src/lib.rt:1063:27
 enum-known-c : tie.Need-enum-known-c
 enum-known-c c = search needs
 
--- src/lib.rt:1063:33
 go-writing-requires : tie.Need-go-writing-requires
 go-writing-requires c κs = search needs
 
--- src/lib.rt:1064:42
 enum-told : tie.Need-enum-told
 enum-told c = search needs
 
--- src/lib.rt:1064:31
 halt-by-requires : tie.Need-halt-by-requires
 halt-by-requires c κs = search needs
 
--- src/lib.rt:1065:45
 enum-told-2 : tie.Need-enum-told-2
 enum-told-2 c = search needs
 
--- src/lib.rt:1065:34
 halt-by-requires-2 : tie.Need-halt-by-requires-2
 halt-by-requires-2 c κs = search needs
 
--- src/lib.rt:1058:1
 returns : tie.Need-returns
 returns c = c .go-writing .ensures ∙ simp (c .before .before .c .given .1)
 
--- src/lib.rt:1058:1
 returns-2 : tie.Need-returns-2
 returns-2 c = c .halt-by .ensures ∙ simp (c .before .enum-told .given .1)
 
--- src/lib.rt:1058:1
 returns-3 : tie.Need-returns-3
 returns-3 c = c .halt-by2 .ensures ∙ simp (c .before .enum-told2 .given .1)
 
@@ -47,12 +34,5 @@ pub keep-result-spec : {M : Type 1} → statement M
 keep-result-spec =
     tie.close
     (tie.spec
-    enum-known-c
-    go-writing-requires
-    enum-told
-    halt-by-requires
-    enum-told-2
-    halt-by-requires-2
-    returns
-    returns-2
-    returns-3)
+    enum-known-c go-writing-requires enum-told halt-by-requires enum-told-2 halt-by-requires-2
+    returns returns-2 returns-3)

@@ -10,10 +10,6 @@ use mathlib.Core.Path.{_≡_, refl, sym, ap, _∙_}
 use Prim.Native.Nat.{_-_, _+_, _≤_}
 use Rattle.machine.proofs.leave_all.Statement.{statement}
 use Rattle.machine.proofs.leave_all.Tie as tie
-use Rattle.machine.proofs.leave_all.Reads as reads
-use Rattle.machine.proofs.leave_all.Lts as lts
-use Rattle.machine.proofs.leave_one.Reads as leave-one-reads
-use Rattle.machine.proofs.no_things.Reads as no-things-reads
 
 abbrev Inv-loop : tie.InvT-loop
 Inv-loop marks m h₀ k₀ h k = (h .count + k ≤ 8) × Seen (marks .at) (λ xs. handedOf h ++ leaveOuts xs (tops (m .boxes) k) ≡ leaveOuts xs (tops (m .boxes) (m .depth)))
@@ -21,43 +17,33 @@ Inv-loop marks m h₀ k₀ h k = (h .count + k ≤ 8) × Seen (marks .at) (λ xs
 abbrev μ-loop : tie.MeasureT-loop
 μ-loop marks m h₀ k₀ h k = k
 
--- src/lib.rt:650:17
 no-things-requires : tie.Need-no-things-requires Inv-loop μ-loop
 no-things-requires c κs = search needs
 
--- src/lib.rt:654:5
 loop-holds : tie.Need-loop-holds Inv-loop μ-loop
 loop-holds c = (search needs, λ xs k. refl)
 
--- src/lib.rt:655:25
 sub-p : tie.Need-sub-p Inv-loop μ-loop
 sub-p c = search needs
 
--- src/lib.rt:655:17
 mul-p : tie.Need-mul-p Inv-loop μ-loop
 mul-p c = search needs
 
--- src/lib.rt:655:17
 element-copy-out-p : tie.Need-element-copy-out-p Inv-loop μ-loop
 element-copy-out-p c = search needs
 
--- src/lib.rt:656:9
 leave-one-requires : tie.Need-leave-one-requires Inv-loop μ-loop
 leave-one-requires c κs = search needs
 
--- src/lib.rt:657:9
 sub-k : tie.Need-sub-k Inv-loop μ-loop
 sub-k c = search needs
 
--- src/lib.rt:654:5
 loop-less : tie.Need-loop-less Inv-loop μ-loop
 loop-less c = search needs
 
--- src/lib.rt:654:5
 loop-again : tie.Need-loop-again Inv-loop μ-loop
 loop-again c = (omega (arith, c .leave-one .ensures .0), λ xs k. leave-more xs (c .before .before .before .before .before .args .t2 .boxes) (c .before .before .before .loop .k) (handedOf (c .before .before .before .loop .h)) (handedOf (c .leave-one .result)) (λ e. omega (arith, c .before .before .loop-test .taken)) (c .leave-one .ensures .1 xs k) ∙ c .before .before .before .loop .inv .1 xs k)
 
--- src/lib.rt:645:1
 returns : tie.Need-returns Inv-loop μ-loop
 returns c = (omega (arith, c .before .loop .inv .0), λ xs k. sym (append-nil (handedOf (c .before .loop .h))) ∙ rw (at-zero (c .before .loop .k) (c .loop-test .left)) at (c .before .loop .inv .1 xs k))
 
@@ -65,15 +51,5 @@ pub leave-all-spec : {M : Type 1} → statement M
 leave-all-spec =
     tie.close
     (tie.spec
-    Inv-loop
-    μ-loop
-    no-things-requires
-    loop-holds
-    sub-p
-    mul-p
-    element-copy-out-p
-    leave-one-requires
-    sub-k
-    loop-less
-    loop-again
-    returns)
+    Inv-loop μ-loop no-things-requires loop-holds sub-p mul-p element-copy-out-p leave-one-requires
+    sub-k loop-less loop-again returns)

@@ -6,37 +6,25 @@ use native.Mathlib.Omega.{arith}
 use borrow.Author.Needs.{needs}
 use Rattle.machine.proofs.leave_one.Statement.{statement}
 use Rattle.machine.proofs.leave_one.Tie as tie
-use Rattle.machine.proofs.leave_one.Reads as reads
-use Rattle.machine.proofs.leave_one.Lts as lts
-use Rattle.machine.proofs.add_thing.Reads as add-thing-reads
-use Rattle.machine.proofs.loop_at.Reads as loop-at-reads
-use Rattle.machine.proofs.sweep_at.Reads as sweep-at-reads
 
--- src/lib.rt:635:8
 sweep-at-requires : tie.Need-sweep-at-requires
 sweep-at-requires c κs = search needs
 
--- src/lib.rt:636:9
 add-thing-requires : tie.Need-add-thing-requires
 add-thing-requires c κs = search needs
 
--- src/lib.rt:636:9
 returns : tie.Need-returns
 returns c = (omega (arith, c .add-thing .ensures .1), λ xs k. c .add-thing .ensures .0 ∙ rw (← (c .before .before .sweep-at .ensures xs k), c .before .if1 .taken))
 
--- src/lib.rt:638:8
 loop-at-requires : tie.Need-loop-at-requires
 loop-at-requires c κs = search needs
 
--- src/lib.rt:639:9
 add-thing-requires-2 : tie.Need-add-thing-requires-2
 add-thing-requires-2 c κs = search needs
 
--- src/lib.rt:639:9
 returns-2 : tie.Need-returns-2
 returns-2 c = (omega (arith, c .add-thing2 .ensures .1), λ xs k. c .add-thing2 .ensures .0 ∙ rw (← (c .before .before .before .before .sweep-at .ensures xs k), c .before .before .before .if1 .left, ← (c .before .before .loop-at .ensures xs k), c .before .if2 .taken))
 
--- src/lib.rt:631:1
 returns-3 : tie.Need-returns-3
 returns-3 c = (omega arith, λ xs k. rw (← (c .before .before .before .sweep-at .ensures xs k), c .before .before .if1 .left, ← (c .before .loop-at .ensures xs k), c .if2 .left) (sym (append-nil (handedOf (c .before .before .before .before .args .h)))))
 
@@ -44,10 +32,5 @@ pub leave-one-spec : {M : Type 1} → statement M
 leave-one-spec =
     tie.close
     (tie.spec
-    sweep-at-requires
-    add-thing-requires
-    returns
-    loop-at-requires
-    add-thing-requires-2
-    returns-2
+    sweep-at-requires add-thing-requires returns loop-at-requires add-thing-requires-2 returns-2
     returns-3)

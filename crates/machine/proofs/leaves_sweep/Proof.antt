@@ -2,19 +2,13 @@ use mathlib.Core.Path.{sym, ap, _∙_}
 use borrow.Author.Needs.{needs}
 use Rattle.machine.proofs.leaves_sweep.Statement.{statement}
 use Rattle.machine.proofs.leaves_sweep.Tie as tie
-use Rattle.machine.proofs.leaves_sweep.Reads as reads
-use Rattle.machine.proofs.leaves_sweep.Lts as lts
-use Rattle.machine.proofs.sweep_at.Reads as sweep-at-reads
 
--- src/lib.rt:1292:8
 sweep-at-requires : tie.Need-sweep-at-requires
 sweep-at-requires c κs = search needs
 
--- src/lib.rt:1289:1
 returns : tie.Need-returns
 returns c = λ xs k. rw (sym (c .before .before .sweep-at .ensures xs k) ∙ c .before .if1 .taken)
 
--- src/lib.rt:1289:1
 returns-2 : tie.Need-returns-2
 returns-2 c = λ xs k. rw (sym (c .before .sweep-at .ensures xs k) ∙ c .if1 .left)
 

@@ -8,9 +8,6 @@ use mathlib.Core.Path.{_≡_, refl, sym, ap, _∙_}
 use Prim.Native.Nat.{_-_, _≤_}
 use Rattle.machine.proofs.loop_depth.Statement.{statement}
 use Rattle.machine.proofs.loop_depth.Tie as tie
-use Rattle.machine.proofs.loop_depth.Reads as reads
-use Rattle.machine.proofs.loop_depth.Lts as lts
-use Rattle.machine.proofs.loop_at.Reads as loop-at-reads
 
 abbrev Inv-loop : tie.InvT-loop
 Inv-loop marks m k₀ k = (k ≤ m .depth) × Seen (marks .at) (λ xs. unwind xs (tops (m .boxes) (m .depth)) ≡ unwind xs (tops (m .boxes) k))
@@ -18,43 +15,33 @@ Inv-loop marks m k₀ k = (k ≤ m .depth) × Seen (marks .at) (λ xs. unwind xs
 abbrev μ-loop : tie.MeasureT-loop
 μ-loop marks m k₀ k = k
 
--- src/lib.rt:603:5
 loop-holds : tie.Need-loop-holds Inv-loop μ-loop
 loop-holds c = (search needs, λ xs k. refl)
 
--- src/lib.rt:604:25
 sub-p : tie.Need-sub-p Inv-loop μ-loop
 sub-p c = search needs
 
--- src/lib.rt:604:17
 mul-p : tie.Need-mul-p Inv-loop μ-loop
 mul-p c = search needs
 
--- src/lib.rt:604:17
 element-copy-out-p : tie.Need-element-copy-out-p Inv-loop μ-loop
 element-copy-out-p c = search needs
 
--- src/lib.rt:605:12
 loop-at-requires : tie.Need-loop-at-requires Inv-loop μ-loop
 loop-at-requires c κs = search needs
 
--- src/lib.rt:606:13
 returns : tie.Need-returns Inv-loop μ-loop
 returns c = (c .before .before .before .before .loop .inv .0, λ xs k. c .before .before .before .before .loop .inv .1 xs k ∙ rw (tops-top (c .before .before .before .before .before .args .t2 .boxes) (c .before .before .before .before .loop .k) (λ e. omega (arith, c .before .before .before .loop-test .taken)), ← (c .before .loop-at .ensures xs k), c .if1 .taken))
 
--- src/lib.rt:608:9
 sub-k : tie.Need-sub-k Inv-loop μ-loop
 sub-k c = search needs
 
--- src/lib.rt:603:5
 loop-less : tie.Need-loop-less Inv-loop μ-loop
 loop-less c = search needs
 
--- src/lib.rt:603:5
 loop-again : tie.Need-loop-again Inv-loop μ-loop
 loop-again c = (search needs, λ xs k. c .before .before .before .before .loop .inv .1 xs k ∙ rw (tops-top (c .before .before .before .before .before .args .t2 .boxes) (c .before .before .before .before .loop .k) (λ e. omega (arith, c .before .before .before .loop-test .taken)), ← (c .before .loop-at .ensures xs k), c .if1 .left))
 
--- src/lib.rt:598:1
 returns-2 : tie.Need-returns-2 Inv-loop μ-loop
 returns-2 c = (search needs, λ xs k. c .before .loop .inv .1 xs k ∙ rw (at-zero (c .before .loop .k) (c .loop-test .left)))
 
@@ -62,15 +49,5 @@ pub loop-depth-spec : {M : Type 1} → statement M
 loop-depth-spec =
     tie.close
     (tie.spec
-    Inv-loop
-    μ-loop
-    loop-holds
-    sub-p
-    mul-p
-    element-copy-out-p
-    loop-at-requires
-    returns
-    sub-k
-    loop-less
-    loop-again
-    returns-2)
+    Inv-loop μ-loop loop-holds sub-p mul-p element-copy-out-p loop-at-requires returns sub-k
+    loop-less loop-again returns-2)

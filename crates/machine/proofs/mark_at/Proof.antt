@@ -5,22 +5,16 @@ use mathlib.Core.Path.{sym}
 use borrow.Author.Needs.{needs}
 use Rattle.machine.proofs.mark_at.Statement.{statement}
 use Rattle.machine.proofs.mark_at.Tie as tie
-use Rattle.machine.proofs.mark_at.Reads as reads
-use Rattle.machine.proofs.mark_at.Lts as lts
 
--- src/lib.rt:450:9
 mul-result : tie.Need-mul-result
 mul-result c = search needs
 
--- src/lib.rt:450:9
 element-copy-out-result : tie.Need-element-copy-out-result
 element-copy-out-result c = search needs
 
--- src/lib.rt:446:1
 returns : tie.Need-returns
 returns c = search needs
 
--- src/lib.rt:446:1
 returns-2 : tie.Need-returns-2
 returns-2 c = sym (List·getD-eq-default (c .before .args .t1 .at) noMark (omega (arith, simp length-map at (c .before .good .0 .1 .1 .0 .1 .0 .1), c .if1 .left)))
 

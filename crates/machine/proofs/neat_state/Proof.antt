@@ -6,15 +6,10 @@ use mathlib.Core.Path.{_≡_, refl, sym, ap, _∙_}
 use borrow.Author.Needs.{needs}
 use Rattle.machine.proofs.neat_state.Statement.{statement}
 use Rattle.machine.proofs.neat_state.Tie as tie
-use Rattle.machine.proofs.neat_state.Reads as reads
-use Rattle.machine.proofs.neat_state.Lts as lts
-use Rattle.machine.proofs.zero_boxes.Reads as zero-boxes-reads
 
--- src/lib.rt:1710:9
 zero-boxes-requires : tie.Need-zero-boxes-requires
 zero-boxes-requires c κs = search needs
 
--- src/lib.rt:1703:1
 returns : tie.Need-returns
 returns c = (rw (c .zero-boxes .ensures, tops-sets (c .before .before .before .args .m .boxes) (c .before .before .before .args .m .depth) (c .before .before .before .args .m .depth) (replicate (8 - c .before .before .before .args .m .depth) 0) (omega arith)), (let h : length (c .before .before .before .args .m .boxes) ≡ 8 = search needs in rw (c .zero-boxes .ensures) (drop-filled 0 (c .before .before .before .args .m .boxes) (c .before .before .before .args .m .depth) h)))
 

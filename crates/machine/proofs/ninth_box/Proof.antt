@@ -4,33 +4,22 @@ use mathlib.Core.Path.{sym, _∙_}
 use borrow.Author.Needs.{needs}
 use Rattle.machine.proofs.ninth_box.Statement.{statement}
 use Rattle.machine.proofs.ninth_box.Tie as tie
-use Rattle.machine.proofs.ninth_box.Reads as reads
-use Rattle.machine.proofs.ninth_box.Lts as lts
-use Rattle.machine.proofs.top_is.Reads as top-is-reads
-use Rattle.table.proofs.is_loop.Reads as is-loop-reads
-use Rattle.table.proofs.sort_of.Reads as sort-of-reads
 
--- src/lib.rt:770:9
 returns : tie.Need-returns
 returns c = rw (tops-length (c .before .args .m .boxes) (c .before .args .m .depth), lt-leb 8 (c .before .args .m .depth) (c .if1 .taken))
 
--- src/lib.rt:772:23
 sort-of-requires : tie.Need-sort-of-requires
 sort-of-requires c κs = search needs
 
--- src/lib.rt:772:8
 is-loop-requires : tie.Need-is-loop-requires
 is-loop-requires c κs = search needs
 
--- src/lib.rt:773:10
 top-is-requires : tie.Need-top-is-requires
 top-is-requires c κs = search needs
 
--- src/lib.rt:763:1
 returns-2 : tie.Need-returns-2
 returns-2 c = rw (tops-length (c .before .before .before .before .before .args .m .boxes) (c .before .before .before .before .before .args .m .depth), le-leb 8 (c .before .before .before .before .before .args .m .depth) (c .before .before .before .before .if1 .left), ← (c .before .before .before .sort-of .ensures), ← (c .before .before .is-loop .ensures), c .before .if2 .taken, c .top-is .ensures)
 
--- src/lib.rt:763:1
 returns-3 : tie.Need-returns-3
 returns-3 c = rw (tops-length (c .before .before .before .before .args .m .boxes) (c .before .before .before .before .args .m .depth), le-leb 8 (c .before .before .before .before .args .m .depth) (c .before .before .before .if1 .left), ← (c .before .before .sort-of .ensures), ← (c .before .is-loop .ensures), c .if2 .left)
 

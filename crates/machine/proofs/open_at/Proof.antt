@@ -3,20 +3,13 @@ use mathlib.Core.Path.{_∙_}
 use borrow.Author.Needs.{needs}
 use Rattle.machine.proofs.open_at.Statement.{statement}
 use Rattle.machine.proofs.open_at.Tie as tie
-use Rattle.machine.proofs.open_at.Reads as reads
-use Rattle.machine.proofs.open_at.Lts as lts
-use Rattle.machine.proofs.mark_at.Reads as mark-at-reads
-use Rattle.machine.proofs.role_opens.Reads as role-opens-reads
 
--- src/lib.rt:536:9
 mark-at-requires : tie.Need-mark-at-requires
 mark-at-requires c κs = search needs
 
--- src/lib.rt:538:5
 role-opens-requires : tie.Need-role-opens-requires
 role-opens-requires c κs = search needs
 
--- src/lib.rt:533:1
 returns : tie.Need-returns
 returns c = λ xs k. c .role-opens .ensures ∙ rw (c .before .mark-at .ensures) (open-at xs (c .before .before .args .marks .at) k (c .before .before .args .p))
 

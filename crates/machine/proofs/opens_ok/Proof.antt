@@ -10,9 +10,6 @@ use mathlib.Core.Path.{_≡_, refl, sym, ap, _∙_}
 use Prim.Native.Nat.{_-_, _≤_}
 use Rattle.machine.proofs.opens_ok.Statement.{statement}
 use Rattle.machine.proofs.opens_ok.Tie as tie
-use Rattle.machine.proofs.opens_ok.Reads as reads
-use Rattle.machine.proofs.opens_ok.Lts as lts
-use Rattle.machine.proofs.box_ok.Reads as box-ok-reads
 
 abbrev Inv-loop : tie.InvT-loop
 Inv-loop marks n m k₀ k = (k ≤ 8) × Seen (marks .at) (λ xs. length xs ≡ n → opensOk xs (tops (m .boxes) (m .depth)) ≡ opensOk xs (tops (m .boxes) k))
@@ -20,43 +17,33 @@ Inv-loop marks n m k₀ k = (k ≤ 8) × Seen (marks .at) (λ xs. length xs ≡ 
 abbrev μ-loop : tie.MeasureT-loop
 μ-loop marks n m k₀ k = k
 
--- src/lib.rt:1647:5
 loop-holds : tie.Need-loop-holds Inv-loop μ-loop
 loop-holds c = (c .pre, λ xs k e. refl)
 
--- src/lib.rt:1648:25
 sub-p : tie.Need-sub-p Inv-loop μ-loop
 sub-p c = search needs
 
--- src/lib.rt:1648:17
 mul-p : tie.Need-mul-p Inv-loop μ-loop
 mul-p c = search needs
 
--- src/lib.rt:1648:17
 element-copy-out-p : tie.Need-element-copy-out-p Inv-loop μ-loop
 element-copy-out-p c = search needs
 
--- src/lib.rt:1649:13
 box-ok-requires : tie.Need-box-ok-requires Inv-loop μ-loop
 box-ok-requires c κs = search needs
 
--- src/lib.rt:1650:13
 returns : tie.Need-returns Inv-loop μ-loop
 returns c = λ xs k e. sym (c .before .before .before .before .loop .inv .1 xs k e ∙ rw (tops-top (c .before .before .before .before .before .args .t3 .boxes) (c .before .before .before .before .loop .k) (λ z. omega (arith, c .before .before .before .loop-test .taken)), sym (c .before .box-ok .ensures xs k e) ∙ not-true (c .before .box-ok .result) (c .if1 .taken)))
 
--- src/lib.rt:1652:9
 sub-k : tie.Need-sub-k Inv-loop μ-loop
 sub-k c = search needs
 
--- src/lib.rt:1647:5
 loop-less : tie.Need-loop-less Inv-loop μ-loop
 loop-less c = search needs
 
--- src/lib.rt:1647:5
 loop-again : tie.Need-loop-again Inv-loop μ-loop
 loop-again c = (search needs, λ xs k e. c .before .before .before .before .loop .inv .1 xs k e ∙ rw (tops-top (c .before .before .before .before .before .args .t3 .boxes) (c .before .before .before .before .loop .k) (λ z. omega (arith, c .before .before .before .loop-test .taken)), sym (c .before .box-ok .ensures xs k e) ∙ not-false (c .before .box-ok .result) (c .if1 .left)))
 
--- src/lib.rt:1642:1
 returns-2 : tie.Need-returns-2 Inv-loop μ-loop
 returns-2 c = λ xs k e. sym (c .before .loop .inv .1 xs k e ∙ rw (at-zero (c .before .loop .k) (c .loop-test .left)))
 
@@ -64,15 +51,5 @@ pub opens-ok-spec : {M : Type 1} → statement M
 opens-ok-spec =
     tie.close
     (tie.spec
-    Inv-loop
-    μ-loop
-    loop-holds
-    sub-p
-    mul-p
-    element-copy-out-p
-    box-ok-requires
-    returns
-    sub-k
-    loop-less
-    loop-again
-    returns-2)
+    Inv-loop μ-loop loop-holds sub-p mul-p element-copy-out-p box-ok-requires returns sub-k
+    loop-less loop-again returns-2)

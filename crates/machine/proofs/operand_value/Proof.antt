@@ -2,32 +2,22 @@ use mathlib.Core.Path.{_∙_}
 use borrow.Author.Needs.{needs}
 use Rattle.machine.proofs.operand_value.Statement.{statement}
 use Rattle.machine.proofs.operand_value.Tie as tie
-use Rattle.machine.proofs.operand_value.Reads as reads
-use Rattle.machine.proofs.operand_value.Lts as lts
-use Rattle.machine.proofs.cell_value.Reads as cell-value-reads
-use Rattle.machine.proofs.slot_of.Reads as slot-of-reads
 
--- src/lib.rt:265:23
 enum-known-x : tie.Need-enum-known-x
 enum-known-x c = search needs
 
--- src/lib.rt:265:40
 slot-of-requires : tie.Need-slot-of-requires
 slot-of-requires c κs = search needs
 
--- src/lib.rt:265:29
 cell-value-requires : tie.Need-cell-value-requires
 cell-value-requires c κs = search needs
 
--- src/lib.rt:266:26
 enum-known-x-2 : tie.Need-enum-known-x-2
 enum-known-x-2 c = search needs
 
--- src/lib.rt:261:1
 returns : tie.Need-returns
 returns c = c .cell-value .ensures ∙ rw (c .before .slot-of .ensures, c .before .before .before .x .given .1)
 
--- src/lib.rt:261:1
 returns-2 : tie.Need-returns-2
 returns-2 c = search needs
 

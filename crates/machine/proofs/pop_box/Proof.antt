@@ -3,23 +3,16 @@ use mathlib.Core.Path.{sym, ap, _∙_}
 use borrow.Author.Needs.{needs}
 use Rattle.machine.proofs.pop_box.Statement.{statement}
 use Rattle.machine.proofs.pop_box.Tie as tie
-use Rattle.machine.proofs.pop_box.Reads as reads
-use Rattle.machine.proofs.pop_box.Lts as lts
-use Rattle.machine.proofs.cut_boxes.Reads as cut-boxes-reads
 
--- src/lib.rt:1154:9
 returns : tie.Need-returns
 returns c = rw (c .if1 .taken)
 
--- src/lib.rt:1156:18
 sub-cut-boxes : tie.Need-sub-cut-boxes
 sub-cut-boxes c = search needs
 
--- src/lib.rt:1156:5
 cut-boxes-requires : tie.Need-cut-boxes-requires
 cut-boxes-requires c κs = search needs
 
--- src/lib.rt:1149:1
 returns-2 : tie.Need-returns-2
 returns-2 c = c .cut-boxes .ensures ∙ rw (tops-top (c .before .before .args .m .boxes) (c .before .before .args .m .depth) (c .before .if1 .left))
 

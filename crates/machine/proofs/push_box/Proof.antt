@@ -4,22 +4,16 @@ use Prim.Native.Nat.{_<_}
 use borrow.Author.Needs.{needs}
 use Rattle.machine.proofs.push_box.Statement.{statement}
 use Rattle.machine.proofs.push_box.Tie as tie
-use Rattle.machine.proofs.push_box.Reads as reads
-use Rattle.machine.proofs.push_box.Lts as lts
 
--- src/lib.rt:369:5
 mul-t : tie.Need-mul-t
 mul-t c = search needs
 
--- src/lib.rt:369:5
 element-write-t : tie.Need-element-write-t
 element-write-t c = search needs
 
--- src/lib.rt:370:15
 add-t : tie.Need-add-t
 add-t c = search needs
 
--- src/lib.rt:363:1
 returns : tie.Need-returns
 returns c = let h : c .args .m .depth < length (c .args .m .boxes) = search needs in rw (tops-push (c .args .m .boxes) (c .args .m .depth) (c .args .p) h)
 

@@ -7,22 +7,16 @@ use mathlib.Core.Path.{sym}
 use borrow.Author.Needs.{needs}
 use Rattle.machine.proofs.put_cell.Statement.{statement}
 use Rattle.machine.proofs.put_cell.Tie as tie
-use Rattle.machine.proofs.put_cell.Reads as reads
-use Rattle.machine.proofs.put_cell.Lts as lts
 
--- src/lib.rt:284:9
 mul-t8 : tie.Need-mul-t8
 mul-t8 c = search needs
 
--- src/lib.rt:284:9
 element-set-from-t : tie.Need-element-set-from-t
 element-set-from-t c = search needs
 
--- src/lib.rt:279:1
 returns : tie.Need-returns
 returns c = rw slots-set
 
--- src/lib.rt:279:1
 returns-2 : tie.Need-returns-2
 returns-2 c = rw (set-out (slotsOf (c .before .args .m .vars)) (c .before .args .n) (c .before .args .c) (omega (arith, slots-length (c .before .args .m .vars), simp length-map at (c .before .good .0 .1 .1 .1 .1 .1 .0 .1 .0 .1), c .if1 .left)))
 

@@ -5,20 +5,13 @@ use mathlib.Core.Path.{_∙_}
 use borrow.Author.Needs.{needs}
 use Rattle.machine.proofs.reads_wrong.Statement.{statement}
 use Rattle.machine.proofs.reads_wrong.Tie as tie
-use Rattle.machine.proofs.reads_wrong.Reads as reads
-use Rattle.machine.proofs.reads_wrong.Lts as lts
-use Rattle.machine.proofs.kinds_now.Reads as kinds-now-reads
-use Rattle.table.proofs.any_wrong.Reads as any-wrong-reads
 
--- src/lib.rt:716:22
 kinds-now-requires : tie.Need-kinds-now-requires
 kinds-now-requires c κs = search needs
 
--- src/lib.rt:716:5
 any-wrong-requires : tie.Need-any-wrong-requires
 any-wrong-requires c κs = search needs
 
--- src/lib.rt:713:1
 returns : tie.Need-returns
 returns c = c .any-wrong .ensures ∙ wrong-row (slotsOf (c .before .before .args .m .vars)) (c .before .kinds-now .result) (allWants (c .before .before .args .ws)) (c .before .kinds-now .ensures)
 

@@ -5,58 +5,40 @@ use mathlib.Core.Path.{sym, ap, _∙_}
 use borrow.Author.Needs.{needs}
 use Rattle.machine.proofs.run_chosen.Statement.{statement}
 use Rattle.machine.proofs.run_chosen.Tie as tie
-use Rattle.machine.proofs.run_chosen.Reads as reads
-use Rattle.machine.proofs.run_chosen.Lts as lts
-use Rattle.machine.proofs.answered.Reads as answered-reads
-use Rattle.machine.proofs.broke_by.Reads as broke-by-reads
-use Rattle.machine.proofs.go_to.Reads as go-to-reads
-use Rattle.machine.proofs.push_box.Reads as push-box-reads
 
--- src/lib.rt:1256:22
 enum-known-c : tie.Need-enum-known-c
 enum-known-c c = search needs
 
--- src/lib.rt:1256:43
 push-box-requires : tie.Need-push-box-requires
 push-box-requires c κs = room-if (c .before .before .before .args .m) (c .before .before .before .pre .1)
 
--- src/lib.rt:1256:37
 go-to-requires : tie.Need-go-to-requires
 go-to-requires c κs = search needs
 
--- src/lib.rt:1256:28
 answered-requires : tie.Need-answered-requires
 answered-requires c κs = search needs
 
--- src/lib.rt:1257:24
 enum-known-c-2 : tie.Need-enum-known-c-2
 enum-known-c-2 c = search needs
 
--- src/lib.rt:1257:39
 go-to-requires-2 : tie.Need-go-to-requires-2
 go-to-requires-2 c κs = search needs
 
--- src/lib.rt:1257:30
 answered-requires-2 : tie.Need-answered-requires-2
 answered-requires-2 c κs = search needs
 
--- src/lib.rt:1258:21
 enum-known-c-3 : tie.Need-enum-known-c-3
 enum-known-c-3 c = search needs
 
--- src/lib.rt:1258:27
 broke-by-requires : tie.Need-broke-by-requires
 broke-by-requires c κs = search needs
 
--- src/lib.rt:1250:1
 returns : tie.Need-returns
 returns c = c .answered .ensures ∙ ap (λ (x : Run). said [] x) (c .before .go-to .ensures ∙ ap (λ (x : Run). goto x (c .before .before .before .before .c .given .0 .0) (x .opened)) (c .before .before .push-box .ensures)) ∙ simp (c .before .before .before .before .c .given .1)
 
--- src/lib.rt:1250:1
 returns-2 : tie.Need-returns-2
 returns-2 c = c .answered2 .ensures ∙ ap (λ (x : Run). said [] x) (c .before .go-to2 .ensures) ∙ simp (c .before .before .before .c2 .given .1)
 
--- src/lib.rt:1250:1
 returns-3 : tie.Need-returns-3
 returns-3 c = c .broke-by .ensures ∙ simp (c .before .before .c3 .given .1)
 
@@ -64,15 +46,5 @@ pub run-chosen-spec : {M : Type 1} → statement M
 run-chosen-spec =
     tie.close
     (tie.spec
-    enum-known-c
-    push-box-requires
-    go-to-requires
-    answered-requires
-    enum-known-c-2
-    go-to-requires-2
-    answered-requires-2
-    enum-known-c-3
-    broke-by-requires
-    returns
-    returns-2
-    returns-3)
+    enum-known-c push-box-requires go-to-requires answered-requires enum-known-c-2 go-to-requires-2
+    answered-requires-2 enum-known-c-3 broke-by-requires returns returns-2 returns-3)

@@ -6,37 +6,25 @@ use mathlib.Core.Path.{sym, ap, _∙_}
 use borrow.Author.Needs.{needs}
 use Rattle.machine.proofs.run_end.Statement.{statement}
 use Rattle.machine.proofs.run_end.Tie as tie
-use Rattle.machine.proofs.run_end.Reads as reads
-use Rattle.machine.proofs.run_end.Lts as lts
-use Rattle.machine.proofs.broke_by.Reads as broke-by-reads
-use Rattle.machine.proofs.finish_run.Reads as finish-run-reads
-use Rattle.machine.proofs.none_handed.Reads as none-handed-reads
 
--- src/lib.rt:1441:9
 broke-by-requires : tie.Need-broke-by-requires
 broke-by-requires c κs = search needs
 
--- src/lib.rt:1441:9
 returns : tie.Need-returns
 returns c = c .broke-by .ensures ∙ rw (tops-top (c .before .before .args .m .boxes) (c .before .before .args .m .depth) (c .before .if1 .taken))
 
--- src/lib.rt:1444:9
 broke-by-requires-2 : tie.Need-broke-by-requires-2
 broke-by-requires-2 c κs = search needs
 
--- src/lib.rt:1444:9
 returns-2 : tie.Need-returns-2
 returns-2 c = c .broke-by2 .ensures ∙ rw (c .before .before .if1 .left, c .before .if2 .taken)
 
--- src/lib.rt:1446:30
 none-handed-requires : tie.Need-none-handed-requires
 none-handed-requires c κs = search needs
 
--- src/lib.rt:1446:5
 finish-run-requires : tie.Need-finish-run-requires
 finish-run-requires c κs = search needs
 
--- src/lib.rt:1435:1
 returns-3 : tie.Need-returns-3
 returns-3 c = c .finish-run .ensures ∙ ap (λ (os : List Out). finish (runOf (c .before .before .before .before .args .before)) (runOf (c .before .before .before .before .args .m)) (c .before .before .before .before .args .o) os) (c .before .none-handed .ensures .0) ∙ rw (c .before .before .before .if1 .left, c .before .before .if2 .left)
 
@@ -44,10 +32,5 @@ pub run-end-spec : {M : Type 1} → statement M
 run-end-spec =
     tie.close
     (tie.spec
-    broke-by-requires
-    returns
-    broke-by-requires-2
-    returns-2
-    none-handed-requires
-    finish-run-requires
+    broke-by-requires returns broke-by-requires-2 returns-2 none-handed-requires finish-run-requires
     returns-3)

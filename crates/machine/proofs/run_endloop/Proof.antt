@@ -9,48 +9,31 @@ use mathlib.Core.Path.{sym, ap, _∙_}
 use borrow.Author.Needs.{needs}
 use Rattle.machine.proofs.run_endloop.Statement.{statement}
 use Rattle.machine.proofs.run_endloop.Tie as tie
-use Rattle.machine.proofs.run_endloop.Reads as reads
-use Rattle.machine.proofs.run_endloop.Lts as lts
-use Rattle.machine.proofs.answered.Reads as answered-reads
-use Rattle.machine.proofs.go_to.Reads as go-to-reads
-use Rattle.machine.proofs.hand_out.Reads as hand-out-reads
-use Rattle.machine.proofs.leave_to.Reads as leave-to-reads
-use Rattle.machine.proofs.leaves_sweep.Reads as leaves-sweep-reads
-use Rattle.machine.proofs.pop_box.Reads as pop-box-reads
 
--- src/lib.rt:1303:8
 leaves-sweep-requires : tie.Need-leaves-sweep-requires
 leaves-sweep-requires c κs = search needs
 
--- src/lib.rt:1305:34
 pop-box-requires : tie.Need-pop-box-requires
 pop-box-requires c κs = search needs
 
--- src/lib.rt:1305:46
 add-leave-to : tie.Need-add-leave-to
 add-leave-to c = search needs
 
--- src/lib.rt:1305:25
 leave-to-requires : tie.Need-leave-to-requires
 leave-to-requires c κs = search needs
 
--- src/lib.rt:1305:9
 hand-out-requires : tie.Need-hand-out-requires
 hand-out-requires c κs = search needs
 
--- src/lib.rt:1305:9
 returns : tie.Need-returns
 returns c = λ xs k. c .hand-out .ensures ∙ ap (λ (x : Run). said (leaves sweepBox ∷ []) x) (c .before .leave-to .ensures ∙ ap (λ (x : Run). unskip true (goto x (c .before .before .before .before .before .args .m .at + 1) (x .opened))) (c .before .before .pop-box .ensures)) ∙ rw (sym (c .before .before .before .before .leaves-sweep .ensures xs k) ∙ c .before .before .before .if1 .taken, add-one)
 
--- src/lib.rt:1307:14
 go-to-requires : tie.Need-go-to-requires
 go-to-requires c κs = search needs
 
--- src/lib.rt:1307:5
 answered-requires : tie.Need-answered-requires
 answered-requires c κs = search needs
 
--- src/lib.rt:1299:1
 returns-2 : tie.Need-returns-2
 returns-2 c = λ xs k. c .answered .ensures ∙ ap (λ (x : Run). said [] x) (c .before .go-to .ensures) ∙ rw (sym (c .before .before .before .leaves-sweep .ensures xs k) ∙ c .before .before .if1 .left, ← (c .before .before .before .before .pre .1))
 
@@ -58,12 +41,5 @@ pub run-endloop-spec : {M : Type 1} → statement M
 run-endloop-spec =
     tie.close
     (tie.spec
-    leaves-sweep-requires
-    pop-box-requires
-    add-leave-to
-    leave-to-requires
-    hand-out-requires
-    returns
-    go-to-requires
-    answered-requires
-    returns-2)
+    leaves-sweep-requires pop-box-requires add-leave-to leave-to-requires hand-out-requires returns
+    go-to-requires answered-requires returns-2)

@@ -10,46 +10,31 @@ use mathlib.Core.Path.{sym, ap, subst, _∙_}
 use borrow.Author.Needs.{needs}
 use Rattle.machine.proofs.run_point.Statement.{statement}
 use Rattle.machine.proofs.run_point.Tie as tie
-use Rattle.machine.proofs.run_point.Reads as reads
-use Rattle.machine.proofs.run_point.Lts as lts
-use Rattle.machine.proofs.enter_loop.Reads as enter-loop-reads
-use Rattle.machine.proofs.halt_by.Reads as halt-by-reads
-use Rattle.machine.proofs.write_point.Reads as write-point-reads
-use Rattle.value.proofs.is_finite.Reads as is-finite-reads
 
--- src/lib.rt:1229:9
 is-finite-requires : tie.Need-is-finite-requires
 is-finite-requires c κs = search needs
 
--- src/lib.rt:1230:9
 halt-by-requires : tie.Need-halt-by-requires
 halt-by-requires c κs = search needs
 
--- src/lib.rt:1230:9
 returns : tie.Need-returns
 returns c = c .halt-by .ensures ∙ point-first (runOf (c .before .before .before .args .m)) (c .before .before .before .args .w) (c .before .before .before .args .p .potential) (c .before .before .before .args .p .current) (sym (c .before .before .is-finite .ensures) ∙ not-true _ (c .before .if1 .taken))
 
--- src/lib.rt:1232:9
 is-finite-requires-2 : tie.Need-is-finite-requires-2
 is-finite-requires-2 c κs = search needs
 
--- src/lib.rt:1233:9
 halt-by-requires-2 : tie.Need-halt-by-requires-2
 halt-by-requires-2 c κs = search needs
 
--- src/lib.rt:1233:9
 returns-2 : tie.Need-returns-2
 returns-2 c = c .halt-by2 .ensures ∙ point-second (runOf (c .before .before .before .before .before .args .m)) (c .before .before .before .before .before .args .w) (c .before .before .before .before .before .args .p .potential) (c .before .before .before .before .before .args .p .current) (sym (c .before .before .is-finite2 .ensures) ∙ not-true _ (c .before .if2 .taken))
 
--- src/lib.rt:1235:16
 write-point-requires : tie.Need-write-point-requires
 write-point-requires c κs = search needs
 
--- src/lib.rt:1235:5
 enter-loop-requires : tie.Need-enter-loop-requires
 enter-loop-requires c κs = subst (λ (x : Run). Stands x × (ninth x true ≡ false)) (sym (c .write-point .ensures)) (record { within = c .before .before .before .before .before .pre .0 .within; few = c .before .before .before .before .before .pre .0 .few }, c .before .before .before .before .before .pre .1)
 
--- src/lib.rt:1225:1
 returns-3 : tie.Need-returns-3
 returns-3 c = c .enter-loop .ensures ∙ ap (λ (x : Run). enter sweepBox x) (c .before .write-point .ensures) ∙ point-both (runOf (c .before .before .before .before .before .before .args .m)) (c .before .before .before .before .before .before .args .w) (c .before .before .before .before .before .before .args .p .potential) (c .before .before .before .before .before .before .args .p .current) (sym (c .before .before .before .before .before .is-finite .ensures) ∙ not-false _ (c .before .before .before .before .if1 .left)) (sym (c .before .before .before .is-finite2 .ensures) ∙ not-false _ (c .before .before .if2 .left))
 
@@ -57,12 +42,5 @@ pub run-point-spec : {M : Type 1} → statement M
 run-point-spec =
     tie.close
     (tie.spec
-    is-finite-requires
-    halt-by-requires
-    returns
-    is-finite-requires-2
-    halt-by-requires-2
-    returns-2
-    write-point-requires
-    enter-loop-requires
-    returns-3)
+    is-finite-requires halt-by-requires returns is-finite-requires-2 halt-by-requires-2 returns-2
+    write-point-requires enter-loop-requires returns-3)

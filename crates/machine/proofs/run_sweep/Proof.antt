@@ -2,56 +2,40 @@ use mathlib.Core.Path.{sym, ap, _∙_}
 use borrow.Author.Needs.{needs}
 use Rattle.machine.proofs.run_sweep.Statement.{statement}
 use Rattle.machine.proofs.run_sweep.Tie as tie
-use Rattle.machine.proofs.run_sweep.Reads as reads
-use Rattle.machine.proofs.run_sweep.Lts as lts
-use Rattle.machine.proofs.leave_loop.Reads as leave-loop-reads
-use Rattle.machine.proofs.run_point.Reads as run-point-reads
 
--- src/lib.rt:1243:48
 enum-told : tie.Need-enum-told
 enum-told c = search needs
 
--- src/lib.rt:1243:27
 leave-loop-requires : tie.Need-leave-loop-requires
 leave-loop-requires c κs = search needs
 
--- src/lib.rt:1244:49
 enum-told-2 : tie.Need-enum-told-2
 enum-told-2 c = search needs
 
--- src/lib.rt:1244:28
 leave-loop-requires-2 : tie.Need-leave-loop-requires-2
 leave-loop-requires-2 c κs = search needs
 
--- src/lib.rt:1245:22
 enum-known-o : tie.Need-enum-known-o
 enum-known-o c = search needs
 
--- src/lib.rt:1245:28
 run-point-requires : tie.Need-run-point-requires
 run-point-requires c κs = search needs
 
--- src/lib.rt:1246:45
 enum-told-3 : tie.Need-enum-told-3
 enum-told-3 c = search needs
 
--- src/lib.rt:1246:24
 leave-loop-requires-3 : tie.Need-leave-loop-requires-3
 leave-loop-requires-3 c κs = search needs
 
--- src/lib.rt:1238:1
 returns : tie.Need-returns
 returns c = λ xs k. c .leave-loop .ensures xs k ∙ simp (c .before .enum-told .given .1)
 
--- src/lib.rt:1238:1
 returns-2 : tie.Need-returns-2
 returns-2 c = λ xs k. c .leave-loop2 .ensures xs k ∙ simp (c .before .enum-told2 .given .1)
 
--- src/lib.rt:1238:1
 returns-3 : tie.Need-returns-3
 returns-3 c = λ xs k. c .run-point .ensures ∙ simp (c .before .before .o .given .1)
 
--- src/lib.rt:1238:1
 returns-4 : tie.Need-returns-4
 returns-4 c = λ xs k. c .leave-loop3 .ensures xs k ∙ simp (c .before .enum-told3 .given .1)
 
@@ -59,15 +43,5 @@ pub run-sweep-spec : {M : Type 1} → statement M
 run-sweep-spec =
     tie.close
     (tie.spec
-    enum-told
-    leave-loop-requires
-    enum-told-2
-    leave-loop-requires-2
-    enum-known-o
-    run-point-requires
-    enum-told-3
-    leave-loop-requires-3
-    returns
-    returns-2
-    returns-3
-    returns-4)
+    enum-told leave-loop-requires enum-told-2 leave-loop-requires-2 enum-known-o run-point-requires
+    enum-told-3 leave-loop-requires-3 returns returns-2 returns-3 returns-4)

@@ -9,23 +9,13 @@ use mathlib.Core.Path.{_≡_, refl, sym, ap, _∙_}
 use borrow.Author.Needs.{needs}
 use Rattle.machine.proofs.settle.Statement.{statement}
 use Rattle.machine.proofs.settle.Tie as tie
-use Rattle.machine.proofs.settle.Reads as reads
-use Rattle.machine.proofs.settle.Lts as lts
-use Rattle.machine.proofs.at_most_eight.Reads as at-most-eight-reads
-use Rattle.machine.proofs.blank_things.Reads as blank-things-reads
-use Rattle.machine.proofs.is_refused.Reads as is-refused-reads
-use Rattle.machine.proofs.neat_state.Reads as neat-state-reads
-use Rattle.machine.proofs.no_things.Reads as no-things-reads
 
--- src/lib.rt:1765:8
 is-refused-requires : tie.Need-is-refused-requires
 is-refused-requires c κs = search needs
 
--- src/lib.rt:1769:21
 no-things-requires : tie.Need-no-things-requires
 no-things-requires c κs = search needs
 
--- src/lib.rt:1766:9
 returns : tie.Need-returns
 returns c = record {
   says = same-step (meaning (c .before .before .before .args .r)) (runOf (c .before .before .before .args .before)) (c .before .before .before .pre (sym (c .before .before .is-refused .ensures) ∙ c .before .if1 .taken));
@@ -35,19 +25,15 @@ returns c = record {
   few = omega arith;
 }
 
--- src/lib.rt:1775:9
 at-most-eight-requires : tie.Need-at-most-eight-requires
 at-most-eight-requires c κs = search needs
 
--- src/lib.rt:1776:9
 neat-state-requires : tie.Need-neat-state-requires
 neat-state-requires c κs = search needs
 
--- src/lib.rt:1777:9
 blank-things-requires : tie.Need-blank-things-requires
 blank-things-requires c κs = search needs
 
--- src/lib.rt:1760:1
 returns-2 : tie.Need-returns-2
 returns-2 c = record {
   says = (let h : length (c .before .before .before .before .before .before .before .args .r .things) ≡ 8 = omega (arith, simp length-map at (c .before .before .before .before .before .before .before .good .1 .0 .1 .1 .1 .1 .0 .1 .0 .1)) in rw (c .blank-things .ensures, things-taken (c .before .before .before .before .before .before .before .args .r .things) (c .before .before .at-most-eight .result), c .before .neat-state .ensures .0, c .before .before .at-most-eight .ensures, eight-taken (outsOf (c .before .before .before .before .before .before .before .args .r .things)) (c .before .before .before .before .before .before .before .args .r .count) (outs-length (c .before .before .before .before .before .before .before .args .r .things) ∙ h)));
@@ -61,10 +47,5 @@ pub settle-spec : {M : Type 1} → statement M
 settle-spec =
     tie.close
     (tie.spec
-    is-refused-requires
-    no-things-requires
-    returns
-    at-most-eight-requires
-    neat-state-requires
-    blank-things-requires
-    returns-2)
+    is-refused-requires no-things-requires returns at-most-eight-requires neat-state-requires
+    blank-things-requires returns-2)

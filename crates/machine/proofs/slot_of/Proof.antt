@@ -7,22 +7,16 @@ use mathlib.Core.Path.{sym}
 use borrow.Author.Needs.{needs}
 use Rattle.machine.proofs.slot_of.Statement.{statement}
 use Rattle.machine.proofs.slot_of.Tie as tie
-use Rattle.machine.proofs.slot_of.Reads as reads
-use Rattle.machine.proofs.slot_of.Lts as lts
 
--- src/lib.rt:188:17
 mul-v : tie.Need-mul-v
 mul-v c = search needs
 
--- src/lib.rt:188:17
 element-copy-out-v : tie.Need-element-copy-out-v
 element-copy-out-v c = search needs
 
--- src/lib.rt:184:1
 returns : tie.Need-returns
 returns c = sym (slots-get (c .before .before .args .t1 .vars) (c .before .before .args .n))
 
--- src/lib.rt:184:1
 returns-2 : tie.Need-returns-2
 returns-2 c = sym (List·getD-eq-default (slotsOf (c .before .args .t1 .vars)) unset (omega (arith, slots-length (c .before .args .t1 .vars), simp length-map at (c .before .good .0 .1 .1 .1 .1 .1 .0 .1 .0 .1), c .if1 .left)))
 

@@ -9,9 +9,6 @@ use mathlib.Core.Path.{_≡_, refl, sym, ap, _∙_}
 use Prim.Native.Nat.{_-_, _≤_}
 use Rattle.machine.proofs.slots_ok.Statement.{statement}
 use Rattle.machine.proofs.slots_ok.Tie as tie
-use Rattle.machine.proofs.slots_ok.Reads as reads
-use Rattle.machine.proofs.slots_ok.Lts as lts
-use Rattle.machine.proofs.cell_ok.Reads as cell-ok-reads
 
 abbrev Inv-loop : tie.InvT-loop
 Inv-loop m i₀ i = slotsOk (slotsOf (m .vars)) ≡ slotsOk (drop i (slotsOf (m .vars)))
@@ -19,39 +16,30 @@ Inv-loop m i₀ i = slotsOk (slotsOf (m .vars)) ≡ slotsOk (drop i (slotsOf (m 
 abbrev μ-loop : tie.MeasureT-loop
 μ-loop m i₀ i = 32 - i
 
--- src/lib.rt:1618:5
 loop-holds : tie.Need-loop-holds Inv-loop μ-loop
 loop-holds c = refl
 
--- src/lib.rt:1619:17
 mul-v : tie.Need-mul-v Inv-loop μ-loop
 mul-v c = search needs
 
--- src/lib.rt:1619:17
 element-copy-out-v : tie.Need-element-copy-out-v Inv-loop μ-loop
 element-copy-out-v c = search needs
 
--- src/lib.rt:1621:13
 cell-ok-requires : tie.Need-cell-ok-requires Inv-loop μ-loop
 cell-ok-requires c κs = search needs
 
--- src/lib.rt:1622:13
 returns : tie.Need-returns Inv-loop μ-loop
 returns c = sym (c .before .before .before .before .loop .inv ∙ slots-more (c .before .before .before .before .before .args .t1 .vars) (c .before .before .before .before .loop .i) (omega (arith, simp length-map at (c .before .before .before .before .before .good .0 .1 .1 .1 .1 .1 .0 .1 .0 .1), c .before .before .before .loop-test .taken)) ∙ rw (sym (c .before .cell-ok .ensures) ∙ not-true (c .before .cell-ok .result) (c .if1 .taken)))
 
--- src/lib.rt:1624:9
 add-i : tie.Need-add-i Inv-loop μ-loop
 add-i c = search needs
 
--- src/lib.rt:1618:5
 loop-less : tie.Need-loop-less Inv-loop μ-loop
 loop-less c = search needs
 
--- src/lib.rt:1618:5
 loop-again : tie.Need-loop-again Inv-loop μ-loop
 loop-again c = c .before .before .before .before .loop .inv ∙ slots-more (c .before .before .before .before .before .args .t1 .vars) (c .before .before .before .before .loop .i) (omega (arith, simp length-map at (c .before .before .before .before .before .good .0 .1 .1 .1 .1 .1 .0 .1 .0 .1), c .before .before .before .loop-test .taken)) ∙ rw (sym (c .before .cell-ok .ensures) ∙ not-false (c .before .cell-ok .result) (c .if1 .left))
 
--- src/lib.rt:1614:1
 returns-2 : tie.Need-returns-2 Inv-loop μ-loop
 returns-2 c = sym (c .before .loop .inv ∙ slots-end (c .before .before .args .t1 .vars) (c .before .loop .i) (omega (arith, simp length-map at (c .before .before .good .0 .1 .1 .1 .1 .1 .0 .1 .0 .1), c .loop-test .left)))
 
@@ -59,14 +47,5 @@ pub slots-ok-spec : {M : Type 1} → statement M
 slots-ok-spec =
     tie.close
     (tie.spec
-    Inv-loop
-    μ-loop
-    loop-holds
-    mul-v
-    element-copy-out-v
-    cell-ok-requires
-    returns
-    add-i
-    loop-less
-    loop-again
-    returns-2)
+    Inv-loop μ-loop loop-holds mul-v element-copy-out-v cell-ok-requires returns add-i loop-less
+    loop-again returns-2)

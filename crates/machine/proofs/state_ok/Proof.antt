@@ -4,32 +4,22 @@ use mathlib.Core.Path.{_≡_, sym, ap, _∙_}
 use borrow.Author.Needs.{needs}
 use Rattle.machine.proofs.state_ok.Statement.{statement}
 use Rattle.machine.proofs.state_ok.Tie as tie
-use Rattle.machine.proofs.state_ok.Reads as reads
-use Rattle.machine.proofs.state_ok.Lts as lts
-use Rattle.machine.proofs.opens_ok.Reads as opens-ok-reads
-use Rattle.machine.proofs.slots_ok.Reads as slots-ok-reads
 
--- src/lib.rt:1664:9
 returns : tie.Need-returns
 returns c = λ xs k e. rw (e, lt-leb (c .before .args .m .at) (c .before .args .n) (c .if1 .taken))
 
--- src/lib.rt:1667:9
 returns-2 : tie.Need-returns-2
 returns-2 c = λ xs k e. rw (e, le-leb (c .before .before .args .m .at) (c .before .before .args .n) (c .before .if1 .left), tops-length (c .before .before .args .m .boxes) (c .before .before .args .m .depth), lt-leb (c .before .before .args .m .depth) 8 (c .if2 .taken))
 
--- src/lib.rt:1669:9
 opens-ok-requires : tie.Need-opens-ok-requires
 opens-ok-requires c κs = search needs
 
--- src/lib.rt:1670:9
 returns-3 : tie.Need-returns-3
 returns-3 c = λ xs k e. rw (e, le-leb (c .before .before .before .before .args .m .at) (c .before .before .before .before .args .n) (c .before .before .before .if1 .left), tops-length (c .before .before .before .before .args .m .boxes) (c .before .before .before .before .args .m .depth), le-leb (c .before .before .before .before .args .m .depth) 8 (c .before .before .if2 .left), sym (c .before .opens-ok .ensures xs k e) ∙ not-true (c .before .opens-ok .result) (c .if3 .taken))
 
--- src/lib.rt:1672:5
 slots-ok-requires : tie.Need-slots-ok-requires
 slots-ok-requires c κs = search needs
 
--- src/lib.rt:1658:1
 returns-4 : tie.Need-returns-4
 returns-4 c = λ xs k e. c .slots-ok .ensures ∙ rw (e, le-leb (c .before .before .before .before .before .args .m .at) (c .before .before .before .before .before .args .n) (c .before .before .before .before .if1 .left), tops-length (c .before .before .before .before .before .args .m .boxes) (c .before .before .before .before .before .args .m .depth), le-leb (c .before .before .before .before .before .args .m .depth) 8 (c .before .before .before .if2 .left), sym (c .before .before .opens-ok .ensures xs k e) ∙ not-false (c .before .before .opens-ok .result) (c .before .if3 .left))
 

@@ -11,25 +11,16 @@ use mathlib.Core.Path.{_≡_, sym, ap, subst, _∙_}
 use borrow.Author.Needs.{needs}
 use Rattle.machine.proofs.step_live.Statement.{statement}
 use Rattle.machine.proofs.step_live.Tie as tie
-use Rattle.machine.proofs.step_live.Reads as reads
-use Rattle.machine.proofs.step_live.Lts as lts
-use Rattle.machine.proofs.any_sweep.Reads as any-sweep-reads
-use Rattle.machine.proofs.step_moved.Reads as step-moved-reads
-use Rattle.machine.proofs.take_control.Reads as take-control-reads
 
--- src/lib.rt:1580:9
 any-sweep-requires : tie.Need-any-sweep-requires
 any-sweep-requires c κs = few-depth (c .args .m) (c .pre .0)
 
--- src/lib.rt:1581:9
 take-control-requires : tie.Need-take-control-requires
 take-control-requires c κs = search needs
 
--- src/lib.rt:1582:5
 step-moved-requires : tie.Need-step-moved-requires
 step-moved-requires c κs = (subst (λ (x : Run). Stands x) (sym (c .take-control .ensures)) (told-stands (c .before .any-sweep .result) (runOf (c .before .before .args .m)) (c .before .before .args .c) (c .before .before .pre .0)), c .before .before .pre .1, c .before .before .pre .2, c .before .any-sweep .ensures (itemsOf (c .before .before .args .script)) (c .before .before .pre .2) ∙ ap (λ (ps : List ℕ). anyOpen isSweep (itemsOf (c .before .before .args .script)) ps) (sym (ap (λ (x : Run). x .opened) (c .take-control .ensures) ∙ told-open (c .before .any-sweep .result) (runOf (c .before .before .args .m)) (c .before .before .args .c))))
 
--- src/lib.rt:1576:1
 returns : tie.Need-returns
 returns c = c .step-moved .ensures ∙ ap (λ (x : Run). moved (itemsOf (c .before .before .before .args .script)) (runOf (c .before .before .before .args .m)) x (c .before .before .before .args .o)) (c .before .take-control .ensures ∙ told-is (itemsOf (c .before .before .before .args .script)) (runOf (c .before .before .before .args .m)) (c .before .before .any-sweep .result) (c .before .before .before .args .c) (c .before .before .any-sweep .ensures (itemsOf (c .before .before .before .args .script)) (c .before .before .before .pre .2)))
 

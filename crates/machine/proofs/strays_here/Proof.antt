@@ -2,31 +2,22 @@ use Rattle.machine.proofs.Boxes.{tops-top}
 use borrow.Author.Needs.{needs}
 use Rattle.machine.proofs.strays_here.Statement.{statement}
 use Rattle.machine.proofs.strays_here.Tie as tie
-use Rattle.machine.proofs.strays_here.Reads as reads
-use Rattle.machine.proofs.strays_here.Lts as lts
-use Rattle.machine.proofs.belongs_to.Reads as belongs-to-reads
 
--- src/lib.rt:739:9
 returns : tie.Need-returns
 returns c = λ xs k. rw (c .if1 .taken)
 
--- src/lib.rt:741:21
 sub-p : tie.Need-sub-p
 sub-p c = search needs
 
--- src/lib.rt:741:13
 mul-p : tie.Need-mul-p
 mul-p c = search needs
 
--- src/lib.rt:741:13
 element-copy-out-p : tie.Need-element-copy-out-p
 element-copy-out-p c = search needs
 
--- src/lib.rt:742:6
 belongs-to-requires : tie.Need-belongs-to-requires
 belongs-to-requires c κs = search needs
 
--- src/lib.rt:732:1
 returns-2 : tie.Need-returns-2
 returns-2 c = λ xs k. rw (tops-top (c .before .before .before .args .t2 .boxes) (c .before .before .before .args .t2 .depth) (c .before .before .if1 .left), c .belongs-to .ensures xs k)
 

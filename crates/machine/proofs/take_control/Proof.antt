@@ -2,40 +2,28 @@ use mathlib.Core.Path.{sym, ap, _∙_}
 use borrow.Author.Needs.{needs}
 use Rattle.machine.proofs.take_control.Statement.{statement}
 use Rattle.machine.proofs.take_control.Tie as tie
-use Rattle.machine.proofs.take_control.Reads as reads
-use Rattle.machine.proofs.take_control.Lts as lts
-use Rattle.machine.proofs.with_pending.Reads as with-pending-reads
-use Rattle.machine.proofs.with_skip.Reads as with-skip-reads
 
--- src/lib.rt:1405:26
 enum-told : tie.Need-enum-told
 enum-told c = search needs
 
--- src/lib.rt:1406:23
 enum-told-2 : tie.Need-enum-told-2
 enum-told-2 c = search needs
 
--- src/lib.rt:1406:23
 with-pending-requires : tie.Need-with-pending-requires
 with-pending-requires c κs = search needs
 
--- src/lib.rt:1407:23
 enum-told-3 : tie.Need-enum-told-3
 enum-told-3 c = search needs
 
--- src/lib.rt:1407:23
 with-skip-requires : tie.Need-with-skip-requires
 with-skip-requires c κs = search needs
 
--- src/lib.rt:1401:1
 returns : tie.Need-returns
 returns c = simp (c .enum-told .given .1)
 
--- src/lib.rt:1401:1
 returns-2 : tie.Need-returns-2
 returns-2 c = c .with-pending .ensures ∙ simp (c .before .enum-told2 .given .1)
 
--- src/lib.rt:1401:1
 returns-3 : tie.Need-returns-3
 returns-3 c = c .with-skip .ensures ∙ simp (c .before .enum-told3 .given .1)
 
@@ -43,11 +31,5 @@ pub take-control-spec : {M : Type 1} → statement M
 take-control-spec =
     tie.close
     (tie.spec
-    enum-told
-    enum-told-2
-    with-pending-requires
-    enum-told-3
-    with-skip-requires
-    returns
-    returns-2
+    enum-told enum-told-2 with-pending-requires enum-told-3 with-skip-requires returns returns-2
     returns-3)

@@ -3,44 +3,31 @@ use mathlib.Core.Path.{sym, ap, _∙_}
 use borrow.Author.Needs.{needs}
 use Rattle.machine.proofs.try_item.Statement.{statement}
 use Rattle.machine.proofs.try_item.Tie as tie
-use Rattle.machine.proofs.try_item.Reads as reads
-use Rattle.machine.proofs.try_item.Lts as lts
-use Rattle.machine.proofs.broke_by.Reads as broke-by-reads
-use Rattle.machine.proofs.serve_item.Reads as serve-item-reads
 
--- src/lib.rt:1466:28
 enum-told : tie.Need-enum-told
 enum-told c = search needs
 
--- src/lib.rt:1466:28
 serve-item-requires : tie.Need-serve-item-requires
 serve-item-requires c κs = search needs
 
--- src/lib.rt:1467:30
 enum-told-2 : tie.Need-enum-told-2
 enum-told-2 c = search needs
 
--- src/lib.rt:1467:30
 serve-item-requires-2 : tie.Need-serve-item-requires-2
 serve-item-requires-2 c κs = search needs
 
--- src/lib.rt:1468:21
 enum-known-c : tie.Need-enum-known-c
 enum-known-c c = search needs
 
--- src/lib.rt:1468:27
 broke-by-requires : tie.Need-broke-by-requires
 broke-by-requires c κs = search needs
 
--- src/lib.rt:1461:1
 returns : tie.Need-returns
 returns c = λ xs k e. c .serve-item .ensures xs k e ∙ rw (c .before .enum-told .given .1)
 
--- src/lib.rt:1461:1
 returns-2 : tie.Need-returns-2
 returns-2 c = λ xs k e. c .serve-item2 .ensures xs k e ∙ rw (c .before .enum-told2 .given .1)
 
--- src/lib.rt:1461:1
 returns-3 : tie.Need-returns-3
 returns-3 c = λ xs k e. c .broke-by .ensures ∙ rw (c .before .before .c .given .1) (broke-is (c .before .before .c .given .0 .0) _ _)
 
@@ -48,12 +35,5 @@ pub try-item-spec : {M : Type 1} → statement M
 try-item-spec =
     tie.close
     (tie.spec
-    enum-told
-    serve-item-requires
-    enum-told-2
-    serve-item-requires-2
-    enum-known-c
-    broke-by-requires
-    returns
-    returns-2
-    returns-3)
+    enum-told serve-item-requires enum-told-2 serve-item-requires-2 enum-known-c broke-by-requires
+    returns returns-2 returns-3)

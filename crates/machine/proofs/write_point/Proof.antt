@@ -5,19 +5,13 @@ use mathlib.Core.Path.{sym, ap, _∙_}
 use borrow.Author.Needs.{needs}
 use Rattle.machine.proofs.write_point.Statement.{statement}
 use Rattle.machine.proofs.write_point.Tie as tie
-use Rattle.machine.proofs.write_point.Reads as reads
-use Rattle.machine.proofs.write_point.Lts as lts
-use Rattle.machine.proofs.put_cell.Reads as put-cell-reads
 
--- src/lib.rt:1221:9
 put-cell-requires : tie.Need-put-cell-requires
 put-cell-requires c κs = search needs
 
--- src/lib.rt:1222:5
 put-cell-requires-2 : tie.Need-put-cell-requires-2
 put-cell-requires-2 c κs = search needs
 
--- src/lib.rt:1216:1
 returns : tie.Need-returns
 returns c = c .put-cell2 .ensures ∙ ap (λ (x : Run). keep x (write (x .vars) (c .before .before .args .w .current) (real (c .before .before .args .p .current)) ba)) (c .before .put-cell .ensures)
 

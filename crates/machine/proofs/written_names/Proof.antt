@@ -10,9 +10,6 @@ use mathlib.Core.Path.{_≡_, refl, sym, ap, _∙_}
 use Prim.Native.Nat.{_-_, _≤_}
 use Rattle.machine.proofs.written_names.Statement.{statement}
 use Rattle.machine.proofs.written_names.Tie as tie
-use Rattle.machine.proofs.written_names.Reads as reads
-use Rattle.machine.proofs.written_names.Lts as lts
-use Rattle.machine.proofs.cell_set.Reads as cell-set-reads
 
 abbrev Inv-loop : tie.InvT-loop
 Inv-loop m t₀ i₀ t i = (i ≤ 32) × (length t ≡ 32) × (sets t i (drop i (map isSet (slotsOf (m .vars)))) ≡ map isSet (slotsOf (m .vars)))
@@ -20,39 +17,30 @@ Inv-loop m t₀ i₀ t i = (i ≤ 32) × (length t ≡ 32) × (sets t i (drop i 
 abbrev μ-loop : tie.MeasureT-loop
 μ-loop m t₀ i₀ t i = 32 - i
 
--- src/lib.rt:237:5
 loop-holds : tie.Need-loop-holds Inv-loop μ-loop
 loop-holds c = (omega arith, refl, said-start isSet (c .args .t1 .vars) _ (omega (arith, simp length-map at (c .good .0 .1 .1 .1 .1 .1 .0 .1 .0 .1))))
 
--- src/lib.rt:238:17
 mul-v : tie.Need-mul-v Inv-loop μ-loop
 mul-v c = search needs
 
--- src/lib.rt:238:17
 element-copy-out-v : tie.Need-element-copy-out-v Inv-loop μ-loop
 element-copy-out-v c = search needs
 
--- src/lib.rt:240:16
 cell-set-requires : tie.Need-cell-set-requires Inv-loop μ-loop
 cell-set-requires c κs = search needs
 
--- src/lib.rt:240:9
 array-write-t : tie.Need-array-write-t Inv-loop μ-loop
 array-write-t c = search needs
 
--- src/lib.rt:241:9
 add-i : tie.Need-add-i Inv-loop μ-loop
 add-i c = search needs
 
--- src/lib.rt:237:5
 loop-less : tie.Need-loop-less Inv-loop μ-loop
 loop-less c = search needs
 
--- src/lib.rt:237:5
 loop-again : tie.Need-loop-again Inv-loop μ-loop
 loop-again c = (search needs, simp length-set (c .before .before .before .loop .inv .1), rw (c .cell-set .ensures) (sym (said-more isSet (c .before .before .before .before .args .t1 .vars) (c .before .before .before .loop .t) (c .before .before .before .loop .i) (omega (arith, simp length-map at (c .before .before .before .before .good .0 .1 .1 .1 .1 .1 .0 .1 .0 .1), c .before .before .loop-test .taken))) ∙ c .before .before .before .loop .inv .2))
 
--- src/lib.rt:232:1
 returns : tie.Need-returns Inv-loop μ-loop
 returns c = sym (said-end isSet (c .before .before .args .t1 .vars) (c .before .loop .t) (c .before .loop .i) (omega (arith, simp length-map at (c .before .before .good .0 .1 .1 .1 .1 .1 .0 .1 .0 .1), c .loop-test .left))) ∙ c .before .loop .inv .2
 
@@ -60,14 +48,5 @@ pub written-names-spec : {M : Type 1} → statement M
 written-names-spec =
     tie.close
     (tie.spec
-    Inv-loop
-    μ-loop
-    loop-holds
-    mul-v
-    element-copy-out-v
-    cell-set-requires
-    array-write-t
-    add-i
-    loop-less
-    loop-again
-    returns)
+    Inv-loop μ-loop loop-holds mul-v element-copy-out-v cell-set-requires array-write-t add-i
+    loop-less loop-again returns)

@@ -7,8 +7,6 @@ use mathlib.Core.Path.{_≡_, refl, sym, ap, _∙_}
 use Prim.Native.Nat.{_-_, _≤_}
 use Rattle.machine.proofs.zero_boxes.Statement.{statement}
 use Rattle.machine.proofs.zero_boxes.Tie as tie
-use Rattle.machine.proofs.zero_boxes.Reads as reads
-use Rattle.machine.proofs.zero_boxes.Lts as lts
 
 abbrev Inv-loop : tie.InvT-loop
 Inv-loop d t₀ i₀ t i = (length t ≡ 8) × (sets t i (replicate (8 - i) 0) ≡ sets t₀ d (replicate (8 - d) 0))
@@ -16,31 +14,24 @@ Inv-loop d t₀ i₀ t i = (length t ≡ 8) × (sets t i (replicate (8 - i) 0) �
 abbrev μ-loop : tie.MeasureT-loop
 μ-loop d t₀ i₀ t i = 8 - i
 
--- src/lib.rt:1682:5
 loop-holds : tie.Need-loop-holds Inv-loop μ-loop
 loop-holds c = (search needs, refl)
 
--- src/lib.rt:1683:9
 mul-t : tie.Need-mul-t Inv-loop μ-loop
 mul-t c = search needs
 
--- src/lib.rt:1683:9
 array-write-t : tie.Need-array-write-t Inv-loop μ-loop
 array-write-t c = search needs
 
--- src/lib.rt:1684:9
 add-i : tie.Need-add-i Inv-loop μ-loop
 add-i c = search needs
 
--- src/lib.rt:1682:5
 loop-less : tie.Need-loop-less Inv-loop μ-loop
 loop-less c = search needs
 
--- src/lib.rt:1682:5
 loop-again : tie.Need-loop-again Inv-loop μ-loop
 loop-again c = (simp length-set (c .before .loop .inv .0), sym (fill-more 0 (c .before .loop .t) (c .before .loop .i) (c .loop-test .taken)) ∙ c .before .loop .inv .1)
 
--- src/lib.rt:1677:1
 returns : tie.Need-returns Inv-loop μ-loop
 returns c = sym (fill-end 0 (c .before .loop .t) (c .before .loop .i) (c .loop-test .left)) ∙ c .before .loop .inv .1
 

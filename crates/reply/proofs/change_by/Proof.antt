@@ -88,26 +88,7 @@ pub change-by-spec : {M : Type 1} → statement M
 change-by-spec =
     tie.close
     (tie.spec
-    enum-known-line
-    one-more-requires
-    changed-requires
-    enum-told
-    changed-requires-2
-    enum-told-2
-    raised-row-requires
-    changed-requires-3
-    enum-told-3
-    changed-requires-4
-    enum-told-4
-    changed-requires-5
-    enum-told-5
-    changed-requires-6
-    enum-told-6
-    changed-requires-7
-    returns
-    returns-2
-    returns-3
-    returns-4
-    returns-5
-    returns-6
-    returns-7)
+    enum-known-line one-more-requires changed-requires enum-told changed-requires-2 enum-told-2
+    raised-row-requires changed-requires-3 enum-told-3 changed-requires-4 enum-told-4
+    changed-requires-5 enum-told-5 changed-requires-6 enum-told-6 changed-requires-7 returns
+    returns-2 returns-3 returns-4 returns-5 returns-6 returns-7)

@@ -35,12 +35,5 @@ pub open-loop-spec : {M : Type 1} → statement M
 open-loop-spec =
     tie.close
     (tie.spec
-    step-to-requires
-    returns
-    step-to-requires-2
-    returns-2
-    array-set-from-loops
-    add-t17
-    add-t18
-    step-to-requires-3
-    returns-3)
+    step-to-requires returns step-to-requires-2 returns-2 array-set-from-loops add-t17 add-t18
+    step-to-requires-3 returns-3)

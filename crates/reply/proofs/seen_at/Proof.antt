@@ -37,12 +37,5 @@ pub seen-at-spec : {M : Type 1} → statement M
 seen-at-spec =
     tie.close
     (tie.spec
-    next-line-requires
-    enum-known-start
-    sub-known-line
-    part-known-line-start
-    part-known-line-end
-    known-line-requires
-    enum-told
-    returns
-    returns-2)
+    next-line-requires enum-known-start sub-known-line part-known-line-start part-known-line-end
+    known-line-requires enum-told returns returns-2)

@@ -81,24 +81,7 @@ pub step-of-spec : {M : Type 1} → statement M
 step-of-spec =
     tie.close
     (tie.spec
-    enum-told
-    step-to-requires
-    enum-told-2
-    step-to-requires-2
-    enum-told-3
-    end-reply-requires
-    enum-known-line
-    open-loop-requires
-    enum-known-line-2
-    close-loop-requires
-    enum-known-line-3
-    step-to-requires-3
-    enum-known-line-4
-    step-to-requires-4
-    returns
-    returns-2
-    returns-3
-    returns-4
-    returns-5
-    returns-6
-    returns-7)
+    enum-told step-to-requires enum-told-2 step-to-requires-2 enum-told-3 end-reply-requires
+    enum-known-line open-loop-requires enum-known-line-2 close-loop-requires enum-known-line-3
+    step-to-requires-3 enum-known-line-4 step-to-requires-4 returns returns-2 returns-3 returns-4
+    returns-5 returns-6 returns-7)

@@ -55,16 +55,5 @@ pub error-code-spec : {M : Type 1} → statement M
 error-code-spec =
     tie.close
     (tie.spec
-    shared-slice-read-if2
-    returns
-    shared-slice-read-if3
-    returns-2
-    ends-error-requires
-    returns-3
-    hex-at-requires
-    enum-known-v
-    enum-told
-    returns-4
-    returns-5
-    returns-6
-    returns-7)
+    shared-slice-read-if2 returns shared-slice-read-if3 returns-2 ends-error-requires returns-3
+    hex-at-requires enum-known-v enum-told returns-4 returns-5 returns-6 returns-7)

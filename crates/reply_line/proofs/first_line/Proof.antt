@@ -41,12 +41,5 @@ pub first-line-spec : {M : Type 1} → statement M
 first-line-spec =
     tie.close
     (tie.spec
-    is-e-requires
-    returns
-    returns-2
-    error-code-requires
-    enum-known-v
-    enum-told
-    returns-3
-    returns-4
+    is-e-requires returns returns-2 error-code-requires enum-known-v enum-told returns-3 returns-4
     returns-5)

@@ -101,28 +101,7 @@ pub later-line-spec : {M : Type 1} → statement M
 later-line-spec =
     tie.close
     (tie.spec
-    shared-slice-read-c
-    mark-line-requires
-    alone-requires
-    alone-requires-2
-    alone-requires-3
-    package-line-requires
-    alone-requires-4
-    alone-requires-5
-    alone-requires-6
-    alone-requires-7
-    error-line-requires
-    returns
-    returns-2
-    returns-3
-    returns-4
-    returns-5
-    returns-6
-    returns-7
-    returns-8
-    returns-9
-    returns-10
-    returns-11
-    returns-12
-    returns-13
-    returns-14)
+    shared-slice-read-c mark-line-requires alone-requires alone-requires-2 alone-requires-3
+    package-line-requires alone-requires-4 alone-requires-5 alone-requires-6 alone-requires-7
+    error-line-requires returns returns-2 returns-3 returns-4 returns-5 returns-6 returns-7
+    returns-8 returns-9 returns-10 returns-11 returns-12 returns-13 returns-14)

@@ -36,11 +36,5 @@ pub package-line-spec : {M : Type 1} → statement M
 package-line-spec =
     tie.close
     (tie.spec
-    judge-package-requires
-    enum-told
-    enum-known-why
-    enum-told-2
-    enum-told-3
-    returns
-    returns-2
+    judge-package-requires enum-told enum-known-why enum-told-2 enum-told-3 returns returns-2
     returns-3)

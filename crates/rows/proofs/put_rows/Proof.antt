@@ -34,12 +34,4 @@ pub put-rows-spec : {M : Type 1} → statement M
 put-rows-spec =
     tie.close
     (tie.spec
-    Inv-loop
-    μ-loop
-    loop-holds
-    row-of-requires
-    put-row-requires
-    add-at
-    loop-less
-    loop-again
-    returns)
+    Inv-loop μ-loop loop-holds row-of-requires put-row-requires add-at loop-less loop-again returns)

@@ -48,28 +48,24 @@ check-block-Inv-loop script kinds at count depth i₀ standing₀ i standing =
 abbrev check-block-μ-loop : check-block-lts.MeasureT-loop
 check-block-μ-loop script kinds at count depth i₀ standing₀ i standing = count - i
 
--- src/lib.rt:697:5
 check-block-loop-holds : (t : ℕ) → check-block-lts.Need-loop-holds (
   check-item-below t,
   check-item.Post,
 ) (check-block-at t) check-block.Post check-block-Inv-loop check-block-μ-loop
 check-block-loop-holds t c = (omega arith, omega arith, omega arith, refl)
 
--- src/lib.rt:698:13
 check-block-check-item-requires : (t : ℕ) → check-block-lts.Need-check-item-requires (
   check-item-below t,
   check-item.Post,
 ) (check-block-at t) check-block.Post check-block-Inv-loop check-block-μ-loop
 check-block-check-item-requires t c κs = omega arith
 
--- src/lib.rt:701:13
 check-block-enum-told : (t : ℕ) → check-block-lts.Need-enum-told (
   check-item-below t,
   check-item.Post,
 ) (check-block-at t) check-block.Post check-block-Inv-loop check-block-μ-loop
 check-block-enum-told t c = search needs
 
--- src/lib.rt:701:13
 check-block-returns :
     (t : ℕ) →
     check-block-lts.Need-returns
@@ -86,21 +82,18 @@ check-block-enum-told-2 : (t : ℕ) → check-block-lts.Need-enum-told-2 (
 ) (check-block-at t) check-block.Post check-block-Inv-loop check-block-μ-loop
 check-block-enum-told-2 t c = search needs
 
--- src/lib.rt:706:13
 check-block-returns-2 : (t : ℕ) → check-block-lts.Need-returns-2 (
   check-item-below t,
   check-item.Post,
 ) (check-block-at t) check-block.Post check-block-Inv-loop check-block-μ-loop
 check-block-returns-2 t c = went-on (c .before .before .before .before .before .before .loop .inv .0) (c .before .before .before .before .before .before .loop .inv .3) (c .before .before .before .before .check-item .ensures .went)
 
--- src/lib.rt:697:5
 check-block-loop-less : (t : ℕ) → check-block-lts.Need-loop-less (
   check-item-below t,
   check-item.Post,
 ) (check-block-at t) check-block.Post check-block-Inv-loop check-block-μ-loop
 check-block-loop-less t c = omega (arith, c .before .before .before .before .check-item .ensures .later (c .before .before .enum-told2 .given .1))
 
--- src/lib.rt:697:5
 check-block-loop-again : (t : ℕ) → check-block-lts.Need-loop-again (
   check-item-below t,
   check-item.Post,
@@ -112,14 +105,12 @@ check-block-loop-again t c = (
   goes-on (c .before .before .before .before .check-item .ensures .went) (c .before .before .enum-told2 .given .1) ∙ c .before .before .before .before .before .before .loop .inv .3,
 )
 
--- src/lib.rt:689:1
 check-block-returns-3 : (t : ℕ) → check-block-lts.Need-returns-3 (
   check-item-below t,
   check-item.Post,
 ) (check-block-at t) check-block.Post check-block-Inv-loop check-block-μ-loop
 check-block-returns-3 t c = went-to (c .before .loop .inv .0) (c .before .loop .inv .1) (c .before .loop .inv .2) (c .before .loop .inv .3)
 
--- src/lib.rt:671:16
 check-item-mul-slot : (t : ℕ) → check-item-lts.Need-mul-slot (
   take-item-reads.Asked,
   take-item-reads.Learnt,
@@ -130,7 +121,6 @@ check-item-mul-slot : (t : ℕ) → check-item-lts.Need-mul-slot (
 ) (check-item-at t) check-item.Post
 check-item-mul-slot t c = search needs
 
--- src/lib.rt:671:16
 check-item-element-copy-out-slot : (t : ℕ) → check-item-lts.Need-element-copy-out-slot (
   take-item-reads.Asked,
   take-item-reads.Learnt,
@@ -141,7 +131,6 @@ check-item-element-copy-out-slot : (t : ℕ) → check-item-lts.Need-element-cop
 ) (check-item-at t) check-item.Post
 check-item-element-copy-out-slot t c = search needs
 
--- src/lib.rt:673:9
 check-item-take-item-requires : (t : ℕ) → check-item-lts.Need-take-item-requires (
   take-item-reads.Asked,
   take-item-reads.Learnt,
@@ -152,7 +141,6 @@ check-item-take-item-requires : (t : ℕ) → check-item-lts.Need-take-item-requ
 ) (check-item-at t) check-item.Post
 check-item-take-item-requires t c κs = omega arith
 
--- src/lib.rt:676:31
 check-item-enum-told : (t : ℕ) → check-item-lts.Need-enum-told (
   take-item-reads.Asked,
   take-item-reads.Learnt,
@@ -163,7 +151,6 @@ check-item-enum-told : (t : ℕ) → check-item-lts.Need-enum-told (
 ) (check-item-at t) check-item.Post
 check-item-enum-told t c = search needs
 
--- src/lib.rt:678:17
 check-item-enum-told-2 : (t : ℕ) → check-item-lts.Need-enum-told-2 (
   take-item-reads.Asked,
   take-item-reads.Learnt,
@@ -174,7 +161,6 @@ check-item-enum-told-2 : (t : ℕ) → check-item-lts.Need-enum-told-2 (
 ) (check-item-at t) check-item.Post
 check-item-enum-told-2 t c = search needs
 
--- src/lib.rt:678:17
 check-item-is-open-requires : (t : ℕ) → check-item-lts.Need-is-open-requires (
   take-item-reads.Asked,
   take-item-reads.Learnt,
@@ -185,7 +171,6 @@ check-item-is-open-requires : (t : ℕ) → check-item-lts.Need-is-open-requires
 ) (check-item-at t) check-item.Post
 check-item-is-open-requires t c κs = search needs
 
--- src/lib.rt:679:17
 check-item-returns : (t : ℕ) → check-item-lts.Need-returns (
   take-item-reads.Asked,
   take-item-reads.Learnt,
@@ -197,7 +182,6 @@ check-item-returns : (t : ℕ) → check-item-lts.Need-returns (
 check-item-returns t c = took (c .before .before .before .before .before .before .args .t1) (c .before .before .before .before .before .before .args .kinds) (c .before .before .before .before .before .before .args .at) (c .before .before .before .before .before .before .args .s) _ (c .before .before .before .before .take-item .result)
     (c .before .before .before .before .before .before .pre .1 .1) (omega (arith, simp length-map at (c .before .before .before .before .before .before .good .0 .1 .1 .0 .1 .0 .1), c .before .before .before .before .before .before .pre .1 .0)) refl (c .before .before .before .before .take-item .ensures)
 
--- src/lib.rt:683:13
 check-item-check-block-requires : (t : ℕ) → check-item-lts.Need-check-block-requires (
   take-item-reads.Asked,
   take-item-reads.Learnt,
@@ -208,7 +192,6 @@ check-item-check-block-requires : (t : ℕ) → check-item-lts.Need-check-block-
 ) (check-item-at t) check-item.Post
 check-item-check-block-requires t c κs = omega (arith, c .before .before .before .before .before .take-item .ensures .goes (c .before .before .before .enum-told2 .given .1), c .before .before .before .before .before .take-item .ensures .depth, c .before .before .before .before .before .before .before .pre .0, c .before .before .before .before .before .before .before .pre .1 .0, c .before .before .before .before .before .before .before .pre .1 .1)
 
--- src/lib.rt:667:1
 check-item-returns-2 : (t : ℕ) → check-item-lts.Need-returns-2 (
   take-item-reads.Asked,
   take-item-reads.Learnt,
@@ -220,7 +203,6 @@ check-item-returns-2 : (t : ℕ) → check-item-lts.Need-returns-2 (
 check-item-returns-2 t c = took (c .before .before .before .before .args .t1) (c .before .before .before .before .args .kinds) (c .before .before .before .before .args .at) (c .before .before .before .before .args .s) _ (c .before .before .take-item .result)
     (c .before .before .before .before .pre .1 .1) (omega (arith, simp length-map at (c .before .before .before .before .good .0 .1 .1 .0 .1 .0 .1), c .before .before .before .before .pre .1 .0)) refl (c .before .before .take-item .ensures)
 
--- src/lib.rt:667:1
 check-item-returns-3 : (t : ℕ) → check-item-lts.Need-returns-3 (
   take-item-reads.Asked,
   take-item-reads.Learnt,

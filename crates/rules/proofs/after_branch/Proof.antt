@@ -5,48 +5,34 @@ use native.Mathlib.Omega.{arith}
 use borrow.Author.Needs.{needs}
 use Rattle.rules.proofs.after_branch.Statement.{statement}
 use Rattle.rules.proofs.after_branch.Tie as tie
-use Rattle.rules.proofs.after_branch.Reads as reads
-use Rattle.rules.proofs.after_branch.Lts as lts
-use Rattle.rules.proofs.in_both.Reads as in-both-reads
-use Rattle.rules.proofs.is_else.Reads as is-else-reads
 
--- src/lib.rt:503:9
 returns : tie.Need-returns
 returns c = (simp (c .if1 .taken), refl)
 
--- src/lib.rt:506:21
 sub-b : tie.Need-sub-b
 sub-b c = search needs
 
--- src/lib.rt:506:13
 mul-b : tie.Need-mul-b
 mul-b c = search needs
 
--- src/lib.rt:506:13
 element-copy-out-b : tie.Need-element-copy-out-b
 element-copy-out-b c = search needs
 
--- src/lib.rt:511:9
 in-both-requires : tie.Need-in-both-requires
 in-both-requires c κs = search needs
 
--- src/lib.rt:512:9
 is-else-requires : tie.Need-is-else-requires
 is-else-requires c κs = search needs
 
--- src/lib.rt:513:13
 sub-t14 : tie.Need-sub-t14
 sub-t14 c = search needs
 
--- src/lib.rt:513:5
 mul-t15 : tie.Need-mul-t15
 mul-t15 c = search needs
 
--- src/lib.rt:513:5
 element-set-from-t : tie.Need-element-set-from-t
 element-set-from-t c = search needs
 
--- src/lib.rt:496:1
 returns-2 : tie.Need-returns-2
 returns-2 c = (
   branch-is (c .before .before .before .before .before .before .before .args .s) (c .before .before .before .before .before .before .before .args .branch) (c .before .in-both .result) (c .is-else .result)
@@ -58,13 +44,5 @@ pub after-branch-spec : {M : Type 1} → statement M
 after-branch-spec =
     tie.close
     (tie.spec
-    returns
-    sub-b
-    mul-b
-    element-copy-out-b
-    in-both-requires
-    is-else-requires
-    sub-t14
-    mul-t15
-    element-set-from-t
-    returns-2)
+    returns sub-b mul-b element-copy-out-b in-both-requires is-else-requires sub-t14 mul-t15
+    element-set-from-t returns-2)

@@ -4,35 +4,25 @@ use native.Mathlib.Omega.{arith}
 use borrow.Author.Needs.{needs}
 use Rattle.rules.proofs.after_close.Statement.{statement}
 use Rattle.rules.proofs.after_close.Tie as tie
-use Rattle.rules.proofs.after_close.Reads as reads
-use Rattle.rules.proofs.after_close.Lts as lts
-use Rattle.rules.proofs.left_of.Reads as left-of-reads
 
--- src/lib.rt:557:9
 returns : tie.Need-returns
 returns c = (simp (c .if1 .taken), omega arith)
 
--- src/lib.rt:560:21
 sub-b : tie.Need-sub-b
 sub-b c = search needs
 
--- src/lib.rt:560:13
 mul-b : tie.Need-mul-b
 mul-b c = search needs
 
--- src/lib.rt:560:13
 element-copy-out-b : tie.Need-element-copy-out-b
 element-copy-out-b c = search needs
 
--- src/lib.rt:561:9
 left-of-requires : tie.Need-left-of-requires
 left-of-requires c κs = search needs
 
--- src/lib.rt:562:15
 sub-t : tie.Need-sub-t
 sub-t c = search needs
 
--- src/lib.rt:550:1
 returns-2 : tie.Need-returns-2
 returns-2 c = (close-is (c .before .before .before .before .args .s) (c .left-of .result) (c .before .before .before .if1 .left) (c .left-of .ensures), omega arith)
 

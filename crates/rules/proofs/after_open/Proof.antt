@@ -6,32 +6,22 @@ use native.Mathlib.Omega.{arith}
 use borrow.Author.Needs.{needs}
 use Rattle.rules.proofs.after_open.Statement.{statement}
 use Rattle.rules.proofs.after_open.Tie as tie
-use Rattle.rules.proofs.after_open.Reads as reads
-use Rattle.rules.proofs.after_open.Lts as lts
-use Rattle.rules.proofs.with_written.Reads as with-written-reads
-use Rattle.table.proofs.sort_of.Reads as sort-of-reads
 
--- src/lib.rt:471:9
 sort-of-requires : tie.Need-sort-of-requires
 sort-of-requires c κs = search needs
 
--- src/lib.rt:473:5
 mul-t12 : tie.Need-mul-t12
 mul-t12 c = search needs
 
--- src/lib.rt:473:5
 element-set-from-t : tie.Need-element-set-from-t
 element-set-from-t c = search needs
 
--- src/lib.rt:480:15
 add-t : tie.Need-add-t
 add-t c = search needs
 
--- src/lib.rt:481:9
 with-written-requires : tie.Need-with-written-requires
 with-written-requires c κs = search needs
 
--- src/lib.rt:464:1
 returns : tie.Need-returns
 returns c = (
   open-is (c .before .before .before .args .s) (c .before .before .before .args .at) (c .before .before .before .args .head) (c .before .sort-of .result) (c .with-written .result)

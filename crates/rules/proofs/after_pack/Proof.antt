@@ -2,30 +2,22 @@ use mathlib.Core.Path.{refl}
 use borrow.Author.Needs.{needs}
 use Rattle.rules.proofs.after_pack.Statement.{statement}
 use Rattle.rules.proofs.after_pack.Tie as tie
-use Rattle.rules.proofs.after_pack.Reads as reads
-use Rattle.rules.proofs.after_pack.Lts as lts
 
--- src/lib.rt:453:13
 enum-told : tie.Need-enum-told
 enum-told c = search needs
 
--- src/lib.rt:456:25
 enum-told-2 : tie.Need-enum-told-2
 enum-told-2 c = search needs
 
--- src/lib.rt:458:13
 enum-told-3 : tie.Need-enum-told-3
 enum-told-3 c = search needs
 
--- src/lib.rt:447:1
 returns : tie.Need-returns
 returns c = (simp (c .enum-told .given .1), refl)
 
--- src/lib.rt:447:1
 returns-2 : tie.Need-returns-2
 returns-2 c = (simp (c .enum-told2 .given .1), refl)
 
--- src/lib.rt:447:1
 returns-3 : tie.Need-returns-3
 returns-3 c = (simp (c .enum-told3 .given .1), refl)
 

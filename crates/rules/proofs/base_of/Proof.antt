@@ -4,44 +4,31 @@ use Rattle.rules.proofs.Boxes.{base-loop, base-if}
 use borrow.Author.Needs.{needs}
 use Rattle.rules.proofs.base_of.Statement.{statement}
 use Rattle.rules.proofs.base_of.Tie as tie
-use Rattle.rules.proofs.base_of.Reads as reads
-use Rattle.rules.proofs.base_of.Lts as lts
-use Rattle.table.proofs.is_branch.Reads as is-branch-reads
-use Rattle.table.proofs.is_loop.Reads as is-loop-reads
 
--- src/lib.rt:221:9
 is-branch-requires : tie.Need-is-branch-requires
 is-branch-requires c κs = search needs
 
--- src/lib.rt:222:9
 returns : tie.Need-returns
 returns c = simp (sym (c .before .is-branch .ensures) ∙ not-true _ (c .if1 .taken))
 
--- src/lib.rt:225:9
 returns-2 : tie.Need-returns-2
 returns-2 c = simp (sym (c .before .before .is-branch .ensures) ∙ not-false _ (c .before .if1 .left), c .if2 .taken)
 
--- src/lib.rt:227:21
 sub-b : tie.Need-sub-b
 sub-b c = search needs
 
--- src/lib.rt:227:13
 mul-b : tie.Need-mul-b
 mul-b c = search needs
 
--- src/lib.rt:227:13
 element-copy-out-b : tie.Need-element-copy-out-b
 element-copy-out-b c = search needs
 
--- src/lib.rt:230:8
 is-loop-requires : tie.Need-is-loop-requires
 is-loop-requires c κs = search needs
 
--- src/lib.rt:231:9
 returns-3 : tie.Need-returns-3
 returns-3 c = base-loop _ (c .before .before .before .before .before .before .before .before .args .t1 .sure) (c .before .before .before .before .before .before .before .before .args .t1 .boxes) (c .before .before .before .before .before .before .before .before .args .t1 .depth) (sym (c .before .before .before .before .before .before .is-branch .ensures) ∙ not-false _ (c .before .before .before .before .before .if1 .left)) (c .before .before .before .before .if2 .left) (sym (c .before .is-loop .ensures) ∙ c .if3 .taken)
 
--- src/lib.rt:215:1
 returns-4 : tie.Need-returns-4
 returns-4 c = base-if _ (c .before .before .before .before .before .before .before .before .args .t1 .sure) (c .before .before .before .before .before .before .before .before .args .t1 .boxes) (c .before .before .before .before .before .before .before .before .args .t1 .depth) (sym (c .before .before .before .before .before .before .is-branch .ensures) ∙ not-false _ (c .before .before .before .before .before .if1 .left)) (c .before .before .before .before .if2 .left) (sym (c .before .is-loop .ensures) ∙ c .if3 .left)
 
@@ -49,12 +36,5 @@ pub base-of-spec : {M : Type 1} → statement M
 base-of-spec =
     tie.close
     (tie.spec
-    is-branch-requires
-    returns
-    returns-2
-    sub-b
-    mul-b
-    element-copy-out-b
-    is-loop-requires
-    returns-3
+    is-branch-requires returns returns-2 sub-b mul-b element-copy-out-b is-loop-requires returns-3
     returns-4)

@@ -2,10 +2,7 @@ use mathlib.Core.Path.{_≡_}
 use Rattle.rules.proofs.Boxes.{some-open}
 use Rattle.rules.proofs.box_open.Statement.{statement}
 use Rattle.rules.proofs.box_open.Tie as tie
-use Rattle.rules.proofs.box_open.Reads as reads
-use Rattle.rules.proofs.box_open.Lts as lts
 
--- src/lib.rt:317:1
 returns : tie.Need-returns
 returns c = some-open (c .before .args .s .boxes) (c .before .args .s .depth)
 

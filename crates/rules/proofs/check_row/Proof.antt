@@ -8,11 +8,6 @@ use Rattle.rules.specs.Walk.{restOf}
 use Rattle.rules.proofs.Way.{begins, goes-on, refused-there, at-end}
 use Rattle.rules.proofs.check_row.Statement.{statement}
 use Rattle.rules.proofs.check_row.Tie as tie
-use Rattle.rules.proofs.check_row.Reads as reads
-use Rattle.rules.proofs.check_row.Lts as lts
-use Rattle.rules.proofs.check_item.Reads as check-item-reads
-use Rattle.rules.proofs.judge_end.Reads as judge-end-reads
-use Rattle.rules.proofs.start.Reads as start-reads
 
 abbrev Inv-loop : tie.InvT-loop
 Inv-loop script kinds count i₀ standing₀ i standing =
@@ -21,42 +16,33 @@ Inv-loop script kinds count i₀ standing₀ i standing =
 abbrev μ-loop : tie.MeasureT-loop
 μ-loop script kinds count i₀ standing₀ i standing = script .count - i
 
--- src/lib.rt:711:9
 start-requires : tie.Need-start-requires Inv-loop μ-loop
 start-requires c κs = search needs
 
--- src/lib.rt:712:5
 loop-holds : tie.Need-loop-holds Inv-loop μ-loop
 loop-holds c = (omega arith, omega (arith, c .start .ensures .1), begins (c .before .args .script) (c .before .args .kinds) (c .start .result) (c .start .ensures .0))
 
--- src/lib.rt:713:13
 check-item-requires : tie.Need-check-item-requires Inv-loop μ-loop
 check-item-requires c κs = omega arith
 
--- src/lib.rt:716:13
 enum-told : tie.Need-enum-told Inv-loop μ-loop
 enum-told c = search needs
 
--- src/lib.rt:716:13
 returns : tie.Need-returns Inv-loop μ-loop
 returns c = refused-there (c .before .before .check-item .ensures .went) (c .enum-told .given .1) ∙ c .before .before .before .before .loop .inv .2
 
 enum-told-2 : tie.Need-enum-told-2 Inv-loop μ-loop
 enum-told-2 c = search needs
 
--- src/lib.rt:712:5
 loop-less : tie.Need-loop-less Inv-loop μ-loop
 loop-less c = omega (arith, c .before .before .before .check-item .ensures .later (c .before .enum-told2 .given .1))
 
--- src/lib.rt:712:5
 loop-again : tie.Need-loop-again Inv-loop μ-loop
 loop-again c = (c .before .before .before .check-item .ensures .went .within, c .before .before .before .check-item .ensures .went .depth, goes-on (c .before .before .before .check-item .ensures .went) (c .before .enum-told2 .given .1) ∙ c .before .before .before .before .before .loop .inv .2)
 
--- src/lib.rt:722:9
 judge-end-requires : tie.Need-judge-end-requires Inv-loop μ-loop
 judge-end-requires c κs = search needs
 
--- src/lib.rt:705:1
 returns-2 : tie.Need-returns-2 Inv-loop μ-loop
 returns-2 c = at-end (c .before .before .before .before .args .script) (c .before .before .before .before .args .kinds) (c .before .before .loop .i) (c .before .before .loop .standing) (c .judge-end .result) (c .before .loop-test .left) (c .judge-end .ensures) ∙ c .before .before .loop .inv .2
 
@@ -64,15 +50,5 @@ pub check-row-spec : {M : Type 1} → statement M
 check-row-spec =
     tie.close
     (tie.spec
-    Inv-loop
-    μ-loop
-    start-requires
-    loop-holds
-    check-item-requires
-    enum-told
-    returns
-    enum-told-2
-    loop-less
-    loop-again
-    judge-end-requires
-    returns-2)
+    Inv-loop μ-loop start-requires loop-holds check-item-requires enum-told returns enum-told-2
+    loop-less loop-again judge-end-requires returns-2)

@@ -2,26 +2,19 @@ use Rattle.rules.proofs.Boxes.{innermost}
 use borrow.Author.Needs.{needs}
 use Rattle.rules.proofs.else_seen.Statement.{statement}
 use Rattle.rules.proofs.else_seen.Tie as tie
-use Rattle.rules.proofs.else_seen.Reads as reads
-use Rattle.rules.proofs.else_seen.Lts as lts
 
--- src/lib.rt:287:9
 returns : tie.Need-returns
 returns c = search needs
 
--- src/lib.rt:289:21
 sub-b : tie.Need-sub-b
 sub-b c = search needs
 
--- src/lib.rt:289:13
 mul-b : tie.Need-mul-b
 mul-b c = search needs
 
--- src/lib.rt:289:13
 element-copy-out-b : tie.Need-element-copy-out-b
 element-copy-out-b c = search needs
 
--- src/lib.rt:281:1
 returns-2 : tie.Need-returns-2
 returns-2 c = simp (innermost (c .before .before .args .t1 .boxes) (c .before .before .args .t1 .depth) (c .before .if1 .left))
 

@@ -2,31 +2,22 @@ use Rattle.rules.proofs.Boxes.{innermost}
 use borrow.Author.Needs.{needs}
 use Rattle.rules.proofs.fits_innermost.Statement.{statement}
 use Rattle.rules.proofs.fits_innermost.Tie as tie
-use Rattle.rules.proofs.fits_innermost.Reads as reads
-use Rattle.rules.proofs.fits_innermost.Lts as lts
-use Rattle.table.proofs.fits_sort.Reads as fits-sort-reads
 
--- src/lib.rt:274:9
 returns : tie.Need-returns
 returns c = search needs
 
--- src/lib.rt:276:21
 sub-b : tie.Need-sub-b
 sub-b c = search needs
 
--- src/lib.rt:276:13
 mul-b : tie.Need-mul-b
 mul-b c = search needs
 
--- src/lib.rt:276:13
 element-copy-out-b : tie.Need-element-copy-out-b
 element-copy-out-b c = search needs
 
--- src/lib.rt:278:5
 fits-sort-requires : tie.Need-fits-sort-requires
 fits-sort-requires c κs = search needs
 
--- src/lib.rt:268:1
 returns-2 : tie.Need-returns-2
 returns-2 c = simp (innermost (c .before .before .before .args .t1 .boxes) (c .before .before .before .args .t1 .depth) (c .before .before .if1 .left), c .fits-sort .ensures)
 

@@ -3,20 +3,13 @@ use Rattle.table.specs.Uses.{first}
 use borrow.Author.Needs.{needs}
 use Rattle.rules.proofs.judge.Statement.{statement}
 use Rattle.rules.proofs.judge.Tie as tie
-use Rattle.rules.proofs.judge.Reads as reads
-use Rattle.rules.proofs.judge.Lts as lts
-use Rattle.rules.proofs.lowest.Reads as lowest-reads
-use Rattle.rules.proofs.tests_of.Reads as tests-of-reads
 
--- src/lib.rt:434:12
 tests-of-requires : tie.Need-tests-of-requires
 tests-of-requires c κs = search needs
 
--- src/lib.rt:434:5
 lowest-requires : tie.Need-lowest-requires
 lowest-requires c κs = search needs
 
--- src/lib.rt:430:1
 returns : tie.Need-returns
 returns c = c .lowest .ensures ∙ ap first (c .before .tests-of .ensures)
 

@@ -2,23 +2,16 @@ use mathlib.Core.Path.{sym, _∙_}
 use borrow.Author.Needs.{needs}
 use Rattle.rules.proofs.judge_end.Statement.{statement}
 use Rattle.rules.proofs.judge_end.Tie as tie
-use Rattle.rules.proofs.judge_end.Reads as reads
-use Rattle.rules.proofs.judge_end.Lts as lts
-use Rattle.rules.proofs.box_open.Reads as box-open-reads
 
--- src/lib.rt:407:8
 box-open-requires : tie.Need-box-open-requires
 box-open-requires c κs = search needs
 
--- src/lib.rt:408:9
 returns : tie.Need-returns
 returns c = simp (sym (c .before .box-open .ensures) ∙ c .if1 .taken)
 
--- src/lib.rt:411:9
 returns-2 : tie.Need-returns-2
 returns-2 c = simp (sym (c .before .before .box-open .ensures) ∙ c .before .if1 .left, c .if2 .taken)
 
--- src/lib.rt:403:1
 returns-3 : tie.Need-returns-3
 returns-3 c = simp (sym (c .before .before .box-open .ensures) ∙ c .before .if1 .left, c .if2 .left)
 

@@ -9,10 +9,6 @@ use Rattle.rules.specs.Check.{kindsOf}
 use Rattle.rules.proofs.Writes.{kinds-next, kinds-end}
 use Rattle.rules.proofs.kinds_of.Statement.{statement}
 use Rattle.rules.proofs.kinds_of.Tie as tie
-use Rattle.rules.proofs.kinds_of.Reads as reads
-use Rattle.rules.proofs.kinds_of.Lts as lts
-use Rattle.rules.proofs.learn_written.Reads as learn-written-reads
-use Rattle.table.proofs.writes.Reads as writes-reads
 
 abbrev Inv-loop : tie.InvT-loop
 Inv-loop script kinds₀ count i₀ kinds i =
@@ -21,35 +17,27 @@ Inv-loop script kinds₀ count i₀ kinds i =
 abbrev μ-loop : tie.MeasureT-loop
 μ-loop script kinds₀ count i₀ kinds i = script .count - i
 
--- src/lib.rt:218:5
 loop-holds : tie.Need-loop-holds Inv-loop μ-loop
 loop-holds c = (search needs, refl)
 
--- src/lib.rt:219:20
 mul-slot : tie.Need-mul-slot Inv-loop μ-loop
 mul-slot c = search needs
 
--- src/lib.rt:219:20
 element-copy-out-slot : tie.Need-element-copy-out-slot Inv-loop μ-loop
 element-copy-out-slot c = search needs
 
--- src/lib.rt:221:41
 writes-requires : tie.Need-writes-requires Inv-loop μ-loop
 writes-requires c κs = search needs
 
--- src/lib.rt:221:13
 learn-written-requires : tie.Need-learn-written-requires Inv-loop μ-loop
 learn-written-requires c κs = search needs
 
--- src/lib.rt:223:9
 add-i : tie.Need-add-i Inv-loop μ-loop
 add-i c = omega arith
 
--- src/lib.rt:218:5
 loop-less : tie.Need-loop-less Inv-loop μ-loop
 loop-less c = omega arith
 
--- src/lib.rt:218:5
 loop-again : tie.Need-loop-again Inv-loop μ-loop
 loop-again c = (
   omega arith,
@@ -60,7 +48,6 @@ loop-again c = (
       ∙ c .before .before .before .before .loop .inv .1,
 )
 
--- src/lib.rt:211:1
 returns : tie.Need-returns Inv-loop μ-loop
 returns c = sym (kinds-end (c .before .before .args .t1 .count) (c .before .loop .i) (c .before .before .args .t1 .items) (c .before .loop .kinds) (c .loop-test .left)) ∙ c .before .loop .inv .1
 
@@ -68,14 +55,5 @@ pub kinds-of-spec : {M : Type 1} → statement M
 kinds-of-spec =
     tie.close
     (tie.spec
-    Inv-loop
-    μ-loop
-    loop-holds
-    mul-slot
-    element-copy-out-slot
-    writes-requires
-    learn-written-requires
-    add-i
-    loop-less
-    loop-again
-    returns)
+    Inv-loop μ-loop loop-holds mul-slot element-copy-out-slot writes-requires learn-written-requires
+    add-i loop-less loop-again returns)

@@ -1,27 +1,19 @@
 use borrow.Author.Needs.{needs}
 use Rattle.rules.proofs.left_if.Statement.{statement}
 use Rattle.rules.proofs.left_if.Tie as tie
-use Rattle.rules.proofs.left_if.Reads as reads
-use Rattle.rules.proofs.left_if.Lts as lts
-use Rattle.rules.proofs.in_both.Reads as in-both-reads
 
--- src/lib.rt:528:9
 in-both-requires : tie.Need-in-both-requires
 in-both-requires c κs = search needs
 
--- src/lib.rt:531:9
 in-both-requires-2 : tie.Need-in-both-requires-2
 in-both-requires-2 c κs = search needs
 
--- src/lib.rt:531:9
 returns : tie.Need-returns
 returns c = simp (c .in-both2 .ensures, c .before .before .in-both .ensures, c .before .if1 .taken)
 
--- src/lib.rt:533:5
 in-both-requires-3 : tie.Need-in-both-requires-3
 in-both-requires-3 c κs = search needs
 
--- src/lib.rt:525:1
 returns-2 : tie.Need-returns-2
 returns-2 c = simp (c .in-both3 .ensures, c .before .before .in-both .ensures, c .before .if1 .left)
 

@@ -2,19 +2,13 @@ use borrow.Author.Tests.{lt-ltb, le-ltb}
 use borrow.Author.Needs.{needs}
 use Rattle.rules.proofs.line_of.Statement.{statement}
 use Rattle.rules.proofs.line_of.Tie as tie
-use Rattle.rules.proofs.line_of.Reads as reads
-use Rattle.rules.proofs.line_of.Lts as lts
-use Rattle.table.proofs.slot_at.Reads as slot-at-reads
 
--- src/lib.rt:737:13
 slot-at-requires : tie.Need-slot-at-requires
 slot-at-requires c κs = search needs
 
--- src/lib.rt:738:9
 returns : tie.Need-returns
 returns c = simp (c .slot-at .ensures, lt-ltb _ _ (c .before .if1 .taken))
 
--- src/lib.rt:731:1
 returns-2 : tie.Need-returns-2
 returns-2 c = simp (le-ltb _ _ (c .if1 .left))
 

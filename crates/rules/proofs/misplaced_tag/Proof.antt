@@ -1,67 +1,49 @@
 use borrow.Author.Needs.{needs}
 use Rattle.rules.proofs.misplaced_tag.Statement.{statement}
 use Rattle.rules.proofs.misplaced_tag.Tie as tie
-use Rattle.rules.proofs.misplaced_tag.Reads as reads
-use Rattle.rules.proofs.misplaced_tag.Lts as lts
-use Rattle.rules.proofs.box_open.Reads as box-open-reads
 
--- src/lib.rt:327:25
 enum-told : tie.Need-enum-told
 enum-told c = search needs
 
--- src/lib.rt:328:26
 enum-told-2 : tie.Need-enum-told-2
 enum-told-2 c = search needs
 
--- src/lib.rt:329:26
 enum-told-3 : tie.Need-enum-told-3
 enum-told-3 c = search needs
 
--- src/lib.rt:330:28
 enum-told-4 : tie.Need-enum-told-4
 enum-told-4 c = search needs
 
--- src/lib.rt:331:27
 enum-told-5 : tie.Need-enum-told-5
 enum-told-5 c = search needs
 
--- src/lib.rt:332:24
 enum-told-6 : tie.Need-enum-told-6
 enum-told-6 c = search needs
 
--- src/lib.rt:333:33
 enum-told-7 : tie.Need-enum-told-7
 enum-told-7 c = search needs
 
--- src/lib.rt:333:33
 box-open-requires : tie.Need-box-open-requires
 box-open-requires c κs = search needs
 
--- src/lib.rt:323:1
 returns : tie.Need-returns
 returns c = search needs
 
--- src/lib.rt:323:1
 returns-2 : tie.Need-returns-2
 returns-2 c = search needs
 
--- src/lib.rt:323:1
 returns-3 : tie.Need-returns-3
 returns-3 c = search needs
 
--- src/lib.rt:323:1
 returns-4 : tie.Need-returns-4
 returns-4 c = search needs
 
--- src/lib.rt:323:1
 returns-5 : tie.Need-returns-5
 returns-5 c = search needs
 
--- src/lib.rt:323:1
 returns-6 : tie.Need-returns-6
 returns-6 c = search needs
 
--- src/lib.rt:323:1
 returns-7 : tie.Need-returns-7
 returns-7 c = simp (c .before .box-open .ensures, c .before .before .enum-told7 .given .1)
 
@@ -69,18 +51,5 @@ pub misplaced-tag-spec : {M : Type 1} → statement M
 misplaced-tag-spec =
     tie.close
     (tie.spec
-    enum-told
-    enum-told-2
-    enum-told-3
-    enum-told-4
-    enum-told-5
-    enum-told-6
-    enum-told-7
-    box-open-requires
-    returns
-    returns-2
-    returns-3
-    returns-4
-    returns-5
-    returns-6
-    returns-7)
+    enum-told enum-told-2 enum-told-3 enum-told-4 enum-told-5 enum-told-6 enum-told-7
+    box-open-requires returns returns-2 returns-3 returns-4 returns-5 returns-6 returns-7)

@@ -3,19 +3,13 @@ use borrow.Author.Tests.{not-true, not-false}
 use borrow.Author.Needs.{needs}
 use Rattle.rules.proofs.ninth_box.Statement.{statement}
 use Rattle.rules.proofs.ninth_box.Tie as tie
-use Rattle.rules.proofs.ninth_box.Reads as reads
-use Rattle.rules.proofs.ninth_box.Lts as lts
-use Rattle.table.proofs.is_open.Reads as is-open-reads
 
--- src/lib.rt:311:9
 is-open-requires : tie.Need-is-open-requires
 is-open-requires c κs = search needs
 
--- src/lib.rt:312:9
 returns : tie.Need-returns
 returns c = simp (sym (c .before .is-open .ensures) ∙ not-true _ (c .if1 .taken))
 
--- src/lib.rt:308:1
 returns-2 : tie.Need-returns-2
 returns-2 c = simp (sym (c .before .is-open .ensures) ∙ not-false _ (c .if1 .left))
 

@@ -5,30 +5,22 @@ use Rattle.rules.proofs.Writes.{one-write}
 use borrow.Author.Needs.{needs}
 use Rattle.rules.proofs.same_name.Statement.{statement}
 use Rattle.rules.proofs.same_name.Tie as tie
-use Rattle.rules.proofs.same_name.Reads as reads
-use Rattle.rules.proofs.same_name.Lts as lts
 
--- src/lib.rt:341:27
 enum-told : tie.Need-enum-told
 enum-told c = search needs
 
--- src/lib.rt:342:26
 enum-told-2 : tie.Need-enum-told-2
 enum-told-2 c = search needs
 
--- src/lib.rt:343:26
 enum-known-gives : tie.Need-enum-known-gives
 enum-known-gives c = search needs
 
--- src/lib.rt:337:1
 returns : tie.Need-returns
 returns c = search needs
 
--- src/lib.rt:337:1
 returns-2 : tie.Need-returns-2
 returns-2 c = sym (rw (c .enum-told2 .given .1) (one-write (c .enum-told2 .given .0 .0)))
 
--- src/lib.rt:337:1
 returns-3 : tie.Need-returns-3
 returns-3 c = simp (c .before .gives .given .1)
 

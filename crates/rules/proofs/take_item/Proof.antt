@@ -6,36 +6,25 @@ use Rattle.rules.proofs.Way.{not-nothing}
 use borrow.Author.Needs.{needs}
 use Rattle.rules.proofs.take_item.Statement.{statement}
 use Rattle.rules.proofs.take_item.Tie as tie
-use Rattle.rules.proofs.take_item.Reads as reads
-use Rattle.rules.proofs.take_item.Lts as lts
-use Rattle.rules.proofs.advance.Reads as advance-reads
-use Rattle.rules.proofs.judge.Reads as judge-reads
 
--- src/lib.rt:633:9
 judge-requires : tie.Need-judge-requires
 judge-requires c κs = search needs
 
--- src/lib.rt:635:31
 enum-told : tie.Need-enum-told
 enum-told c = search needs
 
--- src/lib.rt:641:17
 enum-told-2 : tie.Need-enum-told-2
 enum-told-2 c = search needs
 
--- src/lib.rt:641:17
 advance-requires : tie.Need-advance-requires
 advance-requires c κs = (c .before .before .before .pre .0, not-ninth (c .before .before .before .args .kinds) (c .before .before .before .args .s) (c .before .before .before .args .item) (sym (c .before .before .judge .ensures) ∙ ap found (c .enum-told2 .given .1)))
 
--- src/lib.rt:643:21
 add-next : tie.Need-add-next
 add-next c = search needs
 
--- src/lib.rt:629:1
 returns : tie.Need-returns
 returns c = record { number = c .before .before .judge .ensures; depth = c .before .before .before .pre .0; stays = λ n. refl; goes = λ e. not-nothing (c .enum-told .given .1) e; state = λ e. not-nothing (c .enum-told .given .1) e }
 
--- src/lib.rt:629:1
 returns-2 : tie.Need-returns-2
 returns-2 c = record { number = sym (ap found (c .before .enum-told2 .given .1)) ∙ c .before .before .before .judge .ensures; depth = c .advance .ensures .1; stays = λ n. absurd (n refl); goes = λ e. refl; state = λ e. c .advance .ensures .0 }
 

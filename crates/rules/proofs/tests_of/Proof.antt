@@ -8,55 +8,34 @@ use Rattle.rules.proofs.Rows.{same-rows}
 use borrow.Author.Needs.{needs}
 use Rattle.rules.proofs.tests_of.Statement.{statement}
 use Rattle.rules.proofs.tests_of.Tie as tie
-use Rattle.rules.proofs.tests_of.Reads as reads
-use Rattle.rules.proofs.tests_of.Lts as lts
-use Rattle.rules.proofs.misplaced_mark.Reads as misplaced-mark-reads
-use Rattle.rules.proofs.misplaced_tag.Reads as misplaced-tag-reads
-use Rattle.rules.proofs.nested_sweep.Reads as nested-sweep-reads
-use Rattle.rules.proofs.ninth_box.Reads as ninth-box-reads
-use Rattle.rules.proofs.same_name.Reads as same-name-reads
-use Rattle.rules.proofs.unwritten.Reads as unwritten-reads
-use Rattle.rules.proofs.wrong_kinds.Reads as wrong-kinds-reads
-use Rattle.table.proofs.breaks_order.Reads as breaks-order-reads
-use Rattle.table.proofs.writes.Reads as writes-reads
 
--- src/lib.rt:388:16
 wrong-kinds-requires : tie.Need-wrong-kinds-requires
 wrong-kinds-requires c κs = search needs
 
--- src/lib.rt:389:20
 unwritten-requires : tie.Need-unwritten-requires
 unwritten-requires c κs = search needs
 
--- src/lib.rt:390:15
 misplaced-mark-requires : tie.Need-misplaced-mark-requires
 misplaced-mark-requires c κs = search needs
 
--- src/lib.rt:391:16
 ninth-box-requires : tie.Need-ninth-box-requires
 ninth-box-requires c κs = search needs
 
--- src/lib.rt:392:18
 breaks-order-requires : tie.Need-breaks-order-requires
 breaks-order-requires c κs = search needs
 
--- src/lib.rt:393:14
 misplaced-tag-requires : tie.Need-misplaced-tag-requires
 misplaced-tag-requires c κs = search needs
 
--- src/lib.rt:394:26
 writes-requires : tie.Need-writes-requires
 writes-requires c κs = search needs
 
--- src/lib.rt:394:16
 same-name-requires : tie.Need-same-name-requires
 same-name-requires c κs = search needs
 
--- src/lib.rt:395:17
 nested-sweep-requires : tie.Need-nested-sweep-requires
 nested-sweep-requires c κs = search needs
 
--- src/lib.rt:381:1
 returns : tie.Need-returns
 returns c = same-rows
     (c .before .before .before .before .before .before .before .before .wrong-kinds .ensures)
@@ -72,13 +51,6 @@ pub tests-of-spec : {M : Type 1} → statement M
 tests-of-spec =
     tie.close
     (tie.spec
-    wrong-kinds-requires
-    unwritten-requires
-    misplaced-mark-requires
-    ninth-box-requires
-    breaks-order-requires
-    misplaced-tag-requires
-    writes-requires
-    same-name-requires
-    nested-sweep-requires
-    returns)
+    wrong-kinds-requires unwritten-requires misplaced-mark-requires ninth-box-requires
+    breaks-order-requires misplaced-tag-requires writes-requires same-name-requires
+    nested-sweep-requires returns)

@@ -5,25 +5,16 @@ use Rattle.table.specs.Uses.{Names, has, missing, uses}
 use borrow.Author.Needs.{needs}
 use Rattle.rules.proofs.unwritten.Statement.{statement}
 use Rattle.rules.proofs.unwritten.Tie as tie
-use Rattle.rules.proofs.unwritten.Reads as reads
-use Rattle.rules.proofs.unwritten.Lts as lts
-use Rattle.rules.proofs.base_of.Reads as base-of-reads
-use Rattle.table.proofs.any_missing.Reads as any-missing-reads
-use Rattle.table.proofs.reads.Reads as reads-reads
 
--- src/lib.rt:240:24
 base-of-requires : tie.Need-base-of-requires
 base-of-requires c κs = search needs
 
--- src/lib.rt:240:42
 reads-requires : tie.Need-reads-requires
 reads-requires c κs = search needs
 
--- src/lib.rt:240:5
 any-missing-requires : tie.Need-any-missing-requires
 any-missing-requires c κs = search needs
 
--- src/lib.rt:236:1
 returns : tie.Need-returns
 returns c = c .any-missing .ensures
     ∙ ap (λ (w : List Want). missing (has (c .before .before .base-of .result)) w) (c .before .reads .ensures)

@@ -4,18 +4,13 @@ use lib.Seq.{set-out}
 use borrow.Author.Needs.{needs}
 use Rattle.rules.proofs.with_name.Statement.{statement}
 use Rattle.rules.proofs.with_name.Tie as tie
-use Rattle.rules.proofs.with_name.Reads as reads
-use Rattle.rules.proofs.with_name.Lts as lts
 
--- src/lib.rt:110:9
 returns : tie.Need-returns
 returns c = sym (set-out (c .before .args .names) _ _ (omega (arith, c .if1 .taken)))
 
--- src/lib.rt:113:5
 array-write-t : tie.Need-array-write-t
 array-write-t c = search needs
 
--- src/lib.rt:106:1
 returns-2 : tie.Need-returns-2
 returns-2 c = search needs
 

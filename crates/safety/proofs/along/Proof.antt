@@ -65,17 +65,5 @@ pub along-spec : {M : Type 1} → statement M
 along-spec =
     tie.close
     (tie.spec
-    Inv-loop
-    μ-loop
-    at-most-requires
-    fresh-requires
-    loop-holds
-    mul-told
-    element-copy-out-told
-    step-requires
-    mul-said
-    array-set-from-said
-    add-i
-    loop-less
-    loop-again
-    returns)
+    Inv-loop μ-loop at-most-requires fresh-requires loop-holds mul-told element-copy-out-told
+    step-requires mul-said array-set-from-said add-i loop-less loop-again returns)

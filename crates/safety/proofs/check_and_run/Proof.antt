@@ -45,10 +45,4 @@ pub check-and-run-spec : {M : Type 1} → statement M
 check-and-run-spec =
     tie.close
     (tie.spec
-    check-requires
-    enum-told
-    along-requires
-    enum-known-verdict
-    refused-requires
-    returns
-    returns-2)
+    check-requires enum-told along-requires enum-known-verdict refused-requires returns returns-2)

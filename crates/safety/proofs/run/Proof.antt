@@ -38,10 +38,5 @@ pub run-spec : {M : Type 1} → statement M
 run-spec =
     tie.close
     (tie.spec
-    load-requires
-    enum-told
-    check-and-run-requires
-    enum-known-answer
-    refused-requires
-    returns
+    load-requires enum-told check-and-run-requires enum-known-answer refused-requires returns
     returns-2)

@@ -11,8 +11,6 @@ use Rattle.table.proofs.Act.{the-type}
 use borrow.Author.Needs.{needs}
 use Rattle.script.proofs.act_declares.Statement.{statement}
 use Rattle.script.proofs.act_declares.Tie as tie
-use Rattle.script.proofs.act_declares.Reads as reads
-use Rattle.script.proofs.act_declares.Lts as lts
 
 -- the tags that `_` stands for
 abbrev others : List ℕ
@@ -34,15 +32,12 @@ rest A.CellOn k = refl
 rest A.CellOff k = refl
 rest A.Abort k = refl
 
--- src/lib.rt:68:24
 enum-told : tie.Need-enum-told
 enum-told c = search needs
 
--- src/lib.rt:64:1
 returns : tie.Need-returns
 returns c = search needs
 
--- src/lib.rt:64:1
 returns-2 : tie.Need-returns-2
 returns-2 c = rest (c .before .args .act) (c .match .keys2)
 

@@ -11,9 +11,6 @@ use Rattle.table.proofs.Item.{the-type}
 use borrow.Author.Needs.{needs}
 use Rattle.script.proofs.item_declares.Statement.{statement}
 use Rattle.script.proofs.item_declares.Tie as tie
-use Rattle.script.proofs.item_declares.Reads as reads
-use Rattle.script.proofs.item_declares.Lts as lts
-use Rattle.script.proofs.act_declares.Reads as act-declares-reads
 
 -- the tags that `_` stands for
 abbrev others : List ℕ
@@ -28,19 +25,15 @@ rest (I.Close p) k = refl
 rest I.Break k = refl
 rest I.Tag k = refl
 
--- src/lib.rt:77:19
 enum-known-item : tie.Need-enum-known-item
 enum-known-item c = search needs
 
--- src/lib.rt:77:27
 act-declares-requires : tie.Need-act-declares-requires
 act-declares-requires c κs = search needs
 
--- src/lib.rt:73:1
 returns : tie.Need-returns
 returns c = c .act-declares .ensures ∙ ap declares (sym (c .before .before .item .given .1))
 
--- src/lib.rt:73:1
 returns-2 : tie.Need-returns-2
 returns-2 c = rest (c .before .args .item) (c .match .keys2)
 

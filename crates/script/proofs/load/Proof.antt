@@ -13,15 +13,6 @@ use Rattle.script.specs.Load.{takenOf, takenBy, nameRow, walk, loaded}
 use Rattle.script.proofs.Walk as L
 use Rattle.script.proofs.load.Statement.{statement}
 use Rattle.script.proofs.load.Tie as tie
-use Rattle.script.proofs.load.Reads as reads
-use Rattle.script.proofs.load.Lts as lts
-use Rattle.script.proofs.accept.Reads as accept-reads
-use Rattle.script.proofs.empty.Reads as empty-reads
-use Rattle.script.proofs.count_names.Reads as count-names-reads
-use Rattle.script.proofs.put_name.Reads as put-name-reads
-use Rattle.script.proofs.refuse.Reads as refuse-reads
-use Rattle.script.proofs.take_line.Reads as take-line-reads
-use Rattle.text.proofs.next_byte.Reads as next-byte-reads
 
 abbrev Inv-loop : tie.InvT-loop
 Inv-loop text size script₀ names₀ at₀ number₀ script names at number = (at ≤ length text) × ((number ≤ at + 1) × ((script .names ≤ 32) × ((length names ≡ 32) × ((length text ≤ 8192) × (walk text script (take (script .names) names) at number (lines (drop at text)) ≡ loaded text)))))
@@ -37,74 +28,57 @@ told c =
     less-none : (n : ℕ) → n - 0 ≡ n
     less-none n = omega arith
 
--- src/lib.rt:162:9
 refuse-requires : tie.Need-refuse-requires Inv-loop μ-loop
 refuse-requires c κs = search needs
 
--- src/lib.rt:162:9
 returns : tie.Need-returns Inv-loop μ-loop
 unfolding loaded numberOf
 returns c = c .refuse .ensures ∙ simp (lt-ltb _ _ (c .before .if1 .taken))
 
--- src/lib.rt:164:9
 empty-requires : tie.Need-empty-requires Inv-loop μ-loop
 empty-requires c κs = search needs
 
--- src/lib.rt:168:5
 loop-holds : tie.Need-loop-holds Inv-loop μ-loop
 unfolding loaded
 loop-holds c = (omega arith, (omega arith, (subst (λ (p : Script). p .names ≤ 32) (sym (c .empty .ensures)) (omega arith), (refl, (omega arith, ap (λ (p : Script). walk (c .before .before .before .args .text .now) p (take (p .names) (replicate 32 (replicate 16 32))) 0 1 (lines (c .before .before .before .args .text .now))) (c .empty .ensures) ∙ simp (le-ltb _ _ (c .before .if1 .left)))))))
 
--- src/lib.rt:169:13
 next-byte-requires : tie.Need-next-byte-requires Inv-loop μ-loop
 next-byte-requires c κs = search needs
 
--- src/lib.rt:171:13
 refuse-requires-2 : tie.Need-refuse-requires-2 Inv-loop μ-loop
 refuse-requires-2 c κs = search needs
 
--- src/lib.rt:171:13
 returns-2 : tie.Need-returns-2 Inv-loop μ-loop
 unfolding numberOf
 returns-2 c = c .refuse2 .ensures ∙ sym (L.out-of-lines (c .before .before .before .before .before .before .before .before .args .text .now) (c .before .before .before .before .loop .at) (c .before .before .next-byte .result) (c .before .before .next-byte .ensures .0) (c .before .before .before .before .loop .inv .0) (c .before .before .before .before .loop .script) (take (c .before .before .before .before .loop .script .names) (c .before .before .before .before .loop .names)) (c .before .before .before .before .loop .number) (c .before .if2 .taken)) ∙ c .before .before .before .before .loop .inv .1 .1 .1 .1 .1
 
--- src/lib.rt:174:13
 accept-requires : tie.Need-accept-requires Inv-loop μ-loop
 accept-requires c κs = search needs
 
--- src/lib.rt:174:13
 returns-3 : tie.Need-returns-3 Inv-loop μ-loop
 returns-3 c = c .accept .ensures ∙ sym (L.at-empty (c .before .before .before .before .before .before .before .before .before .args .text .now) (c .before .before .before .before .before .loop .at) (c .before .before .before .next-byte .result) (c .before .before .before .next-byte .ensures .0) (c .before .before .before .before .before .loop .inv .0) (c .before .before .before .before .before .loop .script) (take (c .before .before .before .before .before .loop .script .names) (c .before .before .before .before .before .loop .names)) (c .before .before .before .before .before .loop .number) (c .before .before .if2 .left) (c .before .if3 .taken)) ∙ c .before .before .before .before .before .loop .inv .1 .1 .1 .1 .1
 
--- src/lib.rt:176:20
 sub-line : tie.Need-sub-line Inv-loop μ-loop
 sub-line c = omega (arith, c .before .before .next-byte .ensures .0)
 
--- src/lib.rt:176:20
 part-line-start : tie.Need-part-line-start Inv-loop μ-loop
 part-line-start c = omega (arith, c .before .before .next-byte .ensures .0)
 
--- src/lib.rt:176:20
 part-line-end : tie.Need-part-line-end Inv-loop μ-loop
 part-line-end c = omega (arith, c .before .before .next-byte .ensures .0)
 
--- src/lib.rt:178:41
 sub-take-line : tie.Need-sub-take-line Inv-loop μ-loop
 sub-take-line c = omega (arith, c .before .before .before .next-byte .ensures .0)
 
--- src/lib.rt:178:41
 part-take-line-start : tie.Need-part-take-line-start Inv-loop μ-loop
 part-take-line-start c = omega (arith, c .before .before .before .next-byte .ensures .0)
 
--- src/lib.rt:178:41
 part-take-line-end : tie.Need-part-take-line-end Inv-loop μ-loop
 part-take-line-end c = omega (arith, c .before .before .before .next-byte .ensures .0)
 
--- src/lib.rt:178:69
 array-share-prefix-names : tie.Need-array-share-prefix-names Inv-loop μ-loop
 array-share-prefix-names c = search needs
 
--- src/lib.rt:178:69
 slice-aggregate-take-line : tie.Need-slice-aggregate-take-line Inv-loop μ-loop
 slice-aggregate-take-line c = sym (length-take-le (c .before .before .before .before .before .before .before .loop .script .names) (c .before .before .before .before .before .before .before .loop .names) (omega (arith, c .before .before .before .before .before .before .before .loop .inv .1 .1 .0, c .before .before .before .before .before .before .before .loop .inv .1 .1 .1 .0)))
 
@@ -174,11 +148,9 @@ loop-less-2 c = search needs
 loop-again-2 : tie.Need-loop-again-2 Inv-loop μ-loop
 loop-again-2 c = (omega arith, (omega arith, (c .before .before .before .before .before .before .before .before .before .before .loop .inv .1 .1 .0, (c .before .before .before .before .before .before .before .before .before .before .loop .inv .1 .1 .1 .0, (omega arith, L.skips (c .before .before .before .before .before .before .before .before .before .before .before .before .before .before .args .text .now) (c .before .before .before .before .before .before .before .before .before .before .loop .at) (c .before .before .before .before .before .before .before .before .next-byte .result) (c .before .before .before .before .before .before .before .before .next-byte .ensures .0) (c .before .before .before .before .before .before .before .before .before .before .loop .inv .0) (c .before .before .before .before .before .before .before .before .before .before .loop .script) (c .before .before .before .before .before .before .before .before .before .before .loop .names) (c .before .before .before .before .before .before .before .before .before .before .loop .number) (c .before .before .before .before .before .before .before .if2 .left) (c .before .before .before .before .before .before .if3 .left) (ap takenOf (sym (c .enum-told .given .1)) ∙ told (c .before .before)) ∙ c .before .before .before .before .before .before .before .before .before .before .loop .inv .1 .1 .1 .1 .1)))))
 
--- src/lib.rt:191:5
 refuse-requires-4 : tie.Need-refuse-requires-4 Inv-loop μ-loop
 refuse-requires-4 c κs = search needs
 
--- src/lib.rt:157:1
 returns-5 : tie.Need-returns-5 Inv-loop μ-loop
 unfolding numberOf
 returns-5 c = c .refuse4 .ensures ∙ sym (L.past-end (c .before .before .before .before .before .before .args .text .now) (c .before .before .loop .at) (c .before .before .loop .script) (take (c .before .before .loop .script .names) (c .before .before .loop .names)) (c .before .before .loop .number) (c .before .loop-test .left)) ∙ c .before .before .loop .inv .1 .1 .1 .1 .1
@@ -187,41 +159,10 @@ pub load-spec : {M : Type 1} → statement M
 load-spec =
     tie.close
     (tie.spec
-    Inv-loop
-    μ-loop
-    refuse-requires
-    returns
-    empty-requires
-    loop-holds
-    next-byte-requires
-    refuse-requires-2
-    returns-2
-    accept-requires
-    returns-3
-    sub-line
-    part-line-start
-    part-line-end
-    sub-take-line
-    part-take-line-start
-    part-take-line-end
-    array-share-prefix-names
-    slice-aggregate-take-line
-    take-line-requires
-    add-at
-    add-number
-    enum-known-taken
-    refuse-requires-3
-    returns-4
-    enum-known-taken-2
-    count-names-requires
-    put-name-requires
-    mul-t34
-    element-set-from-script
-    add-script
-    loop-less
-    loop-again
-    enum-told
-    loop-less-2
-    loop-again-2
-    refuse-requires-4
-    returns-5)
+    Inv-loop μ-loop refuse-requires returns empty-requires loop-holds next-byte-requires
+    refuse-requires-2 returns-2 accept-requires returns-3 sub-line part-line-start part-line-end
+    sub-take-line part-take-line-start part-take-line-end array-share-prefix-names
+    slice-aggregate-take-line take-line-requires add-at add-number enum-known-taken
+    refuse-requires-3 returns-4 enum-known-taken-2 count-names-requires put-name-requires mul-t34
+    element-set-from-script add-script loop-less loop-again enum-told loop-less-2 loop-again-2
+    refuse-requires-4 returns-5)

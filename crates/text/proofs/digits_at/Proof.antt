@@ -60,17 +60,5 @@ pub digits-at-spec : {M : Type 1} → statement M
 digits-at-spec =
     tie.close
     (tie.spec
-    Inv-loop
-    μ-loop
-    loop-holds
-    add-digit-value
-    shared-slice-read-digit-value
-    digit-value-requires
-    returns
-    mul-v
-    cast-v
-    add-v
-    add-i
-    loop-less
-    loop-again
-    returns-2)
+    Inv-loop μ-loop loop-holds add-digit-value shared-slice-read-digit-value digit-value-requires
+    returns mul-v cast-v add-v add-i loop-less loop-again returns-2)

@@ -35,11 +35,5 @@ pub put-bytes-spec : {M : Type 1} → statement M
 put-bytes-spec =
     tie.close
     (tie.spec
-    has-room-requires
-    returns
-    sub-copy
-    part-copy-start
-    part-copy-end
-    copy-requires
-    same-length
+    has-room-requires returns sub-copy part-copy-start part-copy-end copy-requires same-length
     returns-2)

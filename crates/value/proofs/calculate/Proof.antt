@@ -5,44 +5,31 @@ use Rattle.value.specs.Arithmetic.{rest, signedWord, wrap, wholes, isZer
 use borrow.Author.Needs.{needs}
 use Rattle.value.proofs.calculate.Statement.{statement}
 use Rattle.value.proofs.calculate.Tie as tie
-use Rattle.value.proofs.calculate.Reads as reads
-use Rattle.value.proofs.calculate.Lts as lts
-use Rattle.value.proofs.calculate_reals.Reads as calculate-reals-reads
-use Rattle.value.proofs.calculate_wholes.Reads as calculate-wholes-reads
 
--- src/lib.rt:352:22
 enum-known-a : tie.Need-enum-known-a
 enum-known-a c = search needs
 
--- src/lib.rt:353:26
 enum-known-b : tie.Need-enum-known-b
 enum-known-b c = search needs
 
--- src/lib.rt:353:32
 calculate-wholes-requires : tie.Need-calculate-wholes-requires
 calculate-wholes-requires c κs = search needs
 
--- src/lib.rt:354:31
 enum-told : tie.Need-enum-told
 enum-told c = search needs
 
--- src/lib.rt:356:21
 enum-known-a-2 : tie.Need-enum-known-a-2
 enum-known-a-2 c = search needs
 
--- src/lib.rt:357:32
 enum-told-2 : tie.Need-enum-told-2
 enum-told-2 c = search needs
 
--- src/lib.rt:358:25
 enum-known-b-2 : tie.Need-enum-known-b-2
 enum-known-b-2 c = search needs
 
--- src/lib.rt:358:31
 calculate-reals-requires : tie.Need-calculate-reals-requires
 calculate-reals-requires c κs = search needs
 
--- src/lib.rt:348:1
 returns : tie.Need-returns
 unfolding calculated
 returns c =
@@ -54,17 +41,14 @@ returns c =
       c .before .before .before .before .before .a .given .1,
     )
 
--- src/lib.rt:348:1
 returns-2 : tie.Need-returns-2
 unfolding calculated
 returns-2 c = simp (c .enum-told .given .1, c .before .before .before .a .given .1)
 
--- src/lib.rt:348:1
 returns-3 : tie.Need-returns-3
 unfolding calculated
 returns-3 c = simp (c .enum-told2 .given .1, c .before .before .before .a2 .given .1)
 
--- src/lib.rt:348:1
 returns-4 : tie.Need-returns-4
 unfolding calculated
 returns-4 c = simp (c .calculate-reals .ensures, c .before .before .b2 .given .1, c .before .before .before .before .before .a2 .given .1)
@@ -73,15 +57,5 @@ pub calculate-spec : {M : Type 1} → statement M
 calculate-spec =
     tie.close
     (tie.spec
-    enum-known-a
-    enum-known-b
-    calculate-wholes-requires
-    enum-told
-    enum-known-a-2
-    enum-told-2
-    enum-known-b-2
-    calculate-reals-requires
-    returns
-    returns-2
-    returns-3
-    returns-4)
+    enum-known-a enum-known-b calculate-wholes-requires enum-told enum-known-a-2 enum-told-2
+    enum-known-b-2 calculate-reals-requires returns returns-2 returns-3 returns-4)

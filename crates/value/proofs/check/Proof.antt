@@ -4,20 +4,14 @@ use Rattle.value.specs.Arithmetic.{rest, signedWord, wrap, wholes, isZer
 use borrow.Author.Needs.{needs}
 use Rattle.value.proofs.check.Statement.{statement}
 use Rattle.value.proofs.check.Tie as tie
-use Rattle.value.proofs.check.Reads as reads
-use Rattle.value.proofs.check.Lts as lts
-use Rattle.value.proofs.finite_float.Reads as finite-float-reads
 
--- src/lib.rt:302:8
 finite-float-requires : tie.Need-finite-float-requires
 finite-float-requires c κs = search needs
 
--- src/lib.rt:303:9
 returns : tie.Need-returns
 unfolding checked
 returns c = simp (sym (c .before .finite-float .ensures) ∙ c .if1 .taken)
 
--- src/lib.rt:299:1
 returns-2 : tie.Need-returns-2
 unfolding checked
 returns-2 c = simp (sym (c .before .finite-float .ensures) ∙ c .if1 .left)

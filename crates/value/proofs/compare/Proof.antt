@@ -5,44 +5,31 @@ use Rattle.value.specs.Arithmetic.{rest, signedWord, wrap, wholes, isZer
 use borrow.Author.Needs.{needs}
 use Rattle.value.proofs.compare.Statement.{statement}
 use Rattle.value.proofs.compare.Tie as tie
-use Rattle.value.proofs.compare.Reads as reads
-use Rattle.value.proofs.compare.Lts as lts
-use Rattle.value.proofs.compare_reals.Reads as compare-reals-reads
-use Rattle.value.proofs.compare_wholes.Reads as compare-wholes-reads
 
--- src/lib.rt:367:22
 enum-known-a : tie.Need-enum-known-a
 enum-known-a c = search needs
 
--- src/lib.rt:368:26
 enum-known-b : tie.Need-enum-known-b
 enum-known-b c = search needs
 
--- src/lib.rt:368:32
 compare-wholes-requires : tie.Need-compare-wholes-requires
 compare-wholes-requires c κs = search needs
 
--- src/lib.rt:369:31
 enum-told : tie.Need-enum-told
 enum-told c = search needs
 
--- src/lib.rt:371:21
 enum-known-a-2 : tie.Need-enum-known-a-2
 enum-known-a-2 c = search needs
 
--- src/lib.rt:372:32
 enum-told-2 : tie.Need-enum-told-2
 enum-told-2 c = search needs
 
--- src/lib.rt:373:25
 enum-known-b-2 : tie.Need-enum-known-b-2
 enum-known-b-2 c = search needs
 
--- src/lib.rt:373:31
 compare-reals-requires : tie.Need-compare-reals-requires
 compare-reals-requires c κs = search needs
 
--- src/lib.rt:363:1
 returns : tie.Need-returns
 unfolding compares
 returns c =
@@ -54,17 +41,14 @@ returns c =
       c .before .before .before .before .before .a .given .1,
     )
 
--- src/lib.rt:363:1
 returns-2 : tie.Need-returns-2
 unfolding compares
 returns-2 c = simp (c .enum-told .given .1, c .before .before .before .a .given .1)
 
--- src/lib.rt:363:1
 returns-3 : tie.Need-returns-3
 unfolding compares
 returns-3 c = simp (c .enum-told2 .given .1, c .before .before .before .a2 .given .1)
 
--- src/lib.rt:363:1
 returns-4 : tie.Need-returns-4
 unfolding compares
 returns-4 c = simp (c .compare-reals .ensures, c .before .before .b2 .given .1, c .before .before .before .before .before .a2 .given .1)
@@ -73,15 +57,5 @@ pub compare-spec : {M : Type 1} → statement M
 compare-spec =
     tie.close
     (tie.spec
-    enum-known-a
-    enum-known-b
-    compare-wholes-requires
-    enum-told
-    enum-known-a-2
-    enum-told-2
-    enum-known-b-2
-    compare-reals-requires
-    returns
-    returns-2
-    returns-3
-    returns-4)
+    enum-known-a enum-known-b compare-wholes-requires enum-told enum-known-a-2 enum-told-2
+    enum-known-b-2 compare-reals-requires returns returns-2 returns-3 returns-4)

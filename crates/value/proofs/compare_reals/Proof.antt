@@ -4,59 +4,45 @@ use Rattle.value.specs.Arithmetic.{rest, signedWord, wrap, wholes, isZer
 use borrow.Author.Needs.{needs}
 use Rattle.value.proofs.compare_reals.Statement.{statement}
 use Rattle.value.proofs.compare_reals.Tie as tie
-use Rattle.value.proofs.compare_reals.Reads as reads
-use Rattle.value.proofs.compare_reals.Lts as lts
 
--- src/lib.rt:328:30
 enum-told : tie.Need-enum-told
 enum-told c = search needs
 
--- src/lib.rt:329:32
 enum-told-2 : tie.Need-enum-told-2
 enum-told-2 c = search needs
 
--- src/lib.rt:330:29
 enum-told-3 : tie.Need-enum-told-3
 enum-told-3 c = search needs
 
--- src/lib.rt:331:31
 enum-told-4 : tie.Need-enum-told-4
 enum-told-4 c = search needs
 
--- src/lib.rt:332:32
 enum-told-5 : tie.Need-enum-told-5
 enum-told-5 c = search needs
 
--- src/lib.rt:333:32
 enum-told-6 : tie.Need-enum-told-6
 enum-told-6 c = search needs
 
--- src/lib.rt:324:1
 returns : tie.Need-returns
 unfolding compareReals
 returns c = simp (c .enum-told .given .1)
 
--- src/lib.rt:324:1
 returns-2 : tie.Need-returns-2
 unfolding compareReals
 returns-2 c = simp (c .enum-told2 .given .1)
 
--- src/lib.rt:324:1
 returns-3 : tie.Need-returns-3
 unfolding compareReals
 returns-3 c = simp (c .enum-told3 .given .1)
 
--- src/lib.rt:324:1
 returns-4 : tie.Need-returns-4
 unfolding compareReals
 returns-4 c = simp (c .enum-told4 .given .1)
 
--- src/lib.rt:324:1
 returns-5 : tie.Need-returns-5
 unfolding compareReals
 returns-5 c = simp (c .enum-told5 .given .1)
 
--- src/lib.rt:324:1
 returns-6 : tie.Need-returns-6
 unfolding compareReals
 returns-6 c = simp (c .enum-told6 .given .1)
@@ -65,15 +51,5 @@ pub compare-reals-spec : {M : Type 1} → statement M
 compare-reals-spec =
     tie.close
     (tie.spec
-    enum-told
-    enum-told-2
-    enum-told-3
-    enum-told-4
-    enum-told-5
-    enum-told-6
-    returns
-    returns-2
-    returns-3
-    returns-4
-    returns-5
-    returns-6)
+    enum-told enum-told-2 enum-told-3 enum-told-4 enum-told-5 enum-told-6 returns returns-2
+    returns-3 returns-4 returns-5 returns-6)

@@ -6,59 +6,45 @@ use Rattle.value.specs.Arithmetic.{rest, signedWord, wrap, wholes, isZer
 use borrow.Author.Needs.{needs}
 use Rattle.value.proofs.compare_wholes.Statement.{statement}
 use Rattle.value.proofs.compare_wholes.Tie as tie
-use Rattle.value.proofs.compare_wholes.Reads as reads
-use Rattle.value.proofs.compare_wholes.Lts as lts
 
--- src/lib.rt:275:30
 enum-told : tie.Need-enum-told
 enum-told c = search needs
 
--- src/lib.rt:276:32
 enum-told-2 : tie.Need-enum-told-2
 enum-told-2 c = search needs
 
--- src/lib.rt:277:29
 enum-told-3 : tie.Need-enum-told-3
 enum-told-3 c = search needs
 
--- src/lib.rt:278:31
 enum-told-4 : tie.Need-enum-told-4
 enum-told-4 c = search needs
 
--- src/lib.rt:279:32
 enum-told-5 : tie.Need-enum-told-5
 enum-told-5 c = search needs
 
--- src/lib.rt:280:32
 enum-told-6 : tie.Need-enum-told-6
 enum-told-6 c = search needs
 
--- src/lib.rt:271:1
 returns : tie.Need-returns
 unfolding compareWholes
 returns c = simp (c .enum-told .given .1, L.same-words _ _ (c .before .before .fits .a) (c .before .before .fits .b))
 
--- src/lib.rt:271:1
 returns-2 : tie.Need-returns-2
 unfolding compareWholes
 returns-2 c = simp (c .enum-told2 .given .1, L.same-words _ _ (c .before .before .fits .a) (c .before .before .fits .b))
 
--- src/lib.rt:271:1
 returns-3 : tie.Need-returns-3
 unfolding compareWholes
 returns-3 c = simp (c .enum-told3 .given .1, toZ-ofZ (c .before .before .fits .a), toZ-ofZ (c .before .before .fits .b))
 
--- src/lib.rt:271:1
 returns-4 : tie.Need-returns-4
 unfolding compareWholes
 returns-4 c = simp (c .enum-told4 .given .1, toZ-ofZ (c .before .before .fits .a), toZ-ofZ (c .before .before .fits .b))
 
--- src/lib.rt:271:1
 returns-5 : tie.Need-returns-5
 unfolding compareWholes
 returns-5 c = simp (c .enum-told5 .given .1, toZ-ofZ (c .before .before .fits .a), toZ-ofZ (c .before .before .fits .b))
 
--- src/lib.rt:271:1
 returns-6 : tie.Need-returns-6
 unfolding compareWholes
 returns-6 c = simp (c .enum-told6 .given .1, toZ-ofZ (c .before .before .fits .a), toZ-ofZ (c .before .before .fits .b))
@@ -67,15 +53,5 @@ pub compare-wholes-spec : {M : Type 1} → statement M
 compare-wholes-spec =
     tie.close
     (tie.spec
-    enum-told
-    enum-told-2
-    enum-told-3
-    enum-told-4
-    enum-told-5
-    enum-told-6
-    returns
-    returns-2
-    returns-3
-    returns-4
-    returns-5
-    returns-6)
+    enum-told enum-told-2 enum-told-3 enum-told-4 enum-told-5 enum-told-6 returns returns-2
+    returns-3 returns-4 returns-5 returns-6)

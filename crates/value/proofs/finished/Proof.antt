@@ -8,24 +8,16 @@ use Rattle.value.proofs.Literals as L
 use borrow.Author.Needs.{needs}
 use Rattle.value.proofs.finished.Statement.{statement}
 use Rattle.value.proofs.finished.Tie as tie
-use Rattle.value.proofs.finished.Reads as reads
-use Rattle.value.proofs.finished.Lts as lts
-use Rattle.value.proofs.negated.Reads as negated-reads
-use Rattle.value.proofs.with_suffix.Reads as with-suffix-reads
 
--- src/lib.rt:113:9
 returns : tie.Need-returns
 returns c = L.no-digit _ _ _ _ _ (c .if1 .taken)
 
--- src/lib.rt:117:17
 negated-requires : tie.Need-negated-requires
 negated-requires c κs = search needs
 
--- src/lib.rt:118:13
 with-suffix-requires : tie.Need-with-suffix-requires
 with-suffix-requires c κs = search needs
 
--- src/lib.rt:118:13
 returns-2 : tie.Need-returns-2
 returns-2 c =
     c .with-suffix .ensures
@@ -33,21 +25,17 @@ returns-2 c =
     ∙ L.fits-negative (c .before .before .before .before .before .before .args .k) (c .before .before .before .before .before .before .args .v) (c .before .before .before .before .before .before .args .i) (drop (c .before .before .before .before .before .before .args .i) (c .before .before .before .before .before .before .args .s .now)) (c .before .before .before .before .if1 .left) (c .before .before .if3 .taken)
     ∙ ap (λ (t : Bool). finish t (c .before .before .before .before .before .before .args .k) (c .before .before .before .before .before .before .args .v) (c .before .before .before .before .before .before .args .i) (drop (c .before .before .before .before .before .before .args .i) (c .before .before .before .before .before .before .args .s .now))) (sym (c .before .before .before .if2 .taken))
 
--- src/lib.rt:120:9
 returns-3 : tie.Need-returns-3
 returns-3 c =
     L.large-negative (c .before .before .before .before .args .k) (c .before .before .before .before .args .v) (c .before .before .before .before .args .i) (drop (c .before .before .before .before .args .i) (c .before .before .before .before .args .s .now)) (c .before .before .if1 .left) (c .if3 .left)
     ∙ ap (λ (t : Bool). finish t (c .before .before .before .before .args .k) (c .before .before .before .before .args .v) (c .before .before .before .before .args .i) (drop (c .before .before .before .before .args .i) (c .before .before .before .before .args .s .now))) (sym (c .before .if2 .taken))
 
--- src/lib.rt:123:34
 cast-with-suffix : tie.Need-cast-with-suffix
 cast-with-suffix c = search needs
 
--- src/lib.rt:123:9
 with-suffix-requires-2 : tie.Need-with-suffix-requires-2
 with-suffix-requires-2 c κs = search needs
 
--- src/lib.rt:123:9
 returns-4 : tie.Need-returns-4
 returns-4 c =
     c .with-suffix2 .ensures
@@ -55,7 +43,6 @@ returns-4 c =
     ∙ L.fits-positive (c .before .before .before .before .before .args .k) (c .before .before .before .before .before .args .v) (c .before .before .before .before .before .args .i) (drop (c .before .before .before .before .before .args .i) (c .before .before .before .before .before .args .s .now)) (c .before .before .before .if1 .left) (c .before .if4 .taken)
     ∙ ap (λ (t : Bool). finish t (c .before .before .before .before .before .args .k) (c .before .before .before .before .before .args .v) (c .before .before .before .before .before .args .i) (drop (c .before .before .before .before .before .args .i) (c .before .before .before .before .before .args .s .now))) (sym (c .before .before .if2 .left))
 
--- src/lib.rt:108:1
 returns-5 : tie.Need-returns-5
 returns-5 c =
     L.large-positive (c .before .before .before .before .args .k) (c .before .before .before .before .args .v) (c .before .before .before .before .args .i) (drop (c .before .before .before .before .args .i) (c .before .before .before .before .args .s .now)) (c .before .before .if1 .left) (c .if4 .left)
@@ -65,12 +52,5 @@ pub finished-spec : {M : Type 1} → statement M
 finished-spec =
     tie.close
     (tie.spec
-    returns
-    negated-requires
-    with-suffix-requires
-    returns-2
-    returns-3
-    cast-with-suffix
-    with-suffix-requires-2
-    returns-4
-    returns-5)
+    returns negated-requires with-suffix-requires returns-2 returns-3 cast-with-suffix
+    with-suffix-requires-2 returns-4 returns-5)

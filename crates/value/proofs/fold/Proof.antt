@@ -11,10 +11,6 @@ use Rattle.value.specs.Fold.{folded}
 use Rattle.value.proofs.Wrap as L
 use Rattle.value.proofs.fold.Statement.{statement}
 use Rattle.value.proofs.fold.Tie as tie
-use Rattle.value.proofs.fold.Reads as reads
-use Rattle.value.proofs.fold.Lts as lts
-
--- src/lib.rt:28:14
 
 at-low : (c : tie.Then2) → L.Narrow (λ (z : ℤ). z +ℤ pos 4294967296) (c .before .before .args .r) (folded (c .before .before .args .r))
 at-low c = L.by-op (λ (z : ℤ). z +ℤ pos 4294967296) _ _ (c .before .before .fits .r) (L.low _ (c .before .before .pre) (L.tested _ (c .before .before .fits .r) (negsuc 2147483647) true (c .if2 .taken)))
@@ -31,39 +27,30 @@ at-high c = L.by-op (λ (z : ℤ). z -ℤ pos 4294967296) _ _ (c .before .before
 add-result : tie.Need-add-result
 add-result c = at-low c .computes
 
--- src/lib.rt:28:13
 cast-result : tie.Need-cast-result
 cast-result c = at-low c .casts
 
--- src/lib.rt:30:13
 cast-result-2 : tie.Need-cast-result-2
 cast-result-2 c = below c .0
 
--- src/lib.rt:33:9
 cast-result-3 : tie.Need-cast-result-3
 cast-result-3 c = above c .0
 
--- src/lib.rt:35:10
 sub-result : tie.Need-sub-result
 sub-result c = at-high c .computes
 
--- src/lib.rt:35:9
 cast-result-4 : tie.Need-cast-result-4
 cast-result-4 c = at-high c .casts
 
--- src/lib.rt:22:1
 returns : tie.Need-returns
 returns c = at-low c .gives
 
--- src/lib.rt:22:1
 returns-2 : tie.Need-returns-2
 returns-2 c = below c .1
 
--- src/lib.rt:22:1
 returns-3 : tie.Need-returns-3
 returns-3 c = above c .1
 
--- src/lib.rt:22:1
 returns-4 : tie.Need-returns-4
 returns-4 c = at-high c .gives
 
@@ -71,13 +58,5 @@ pub fold-spec : {M : Type 1} → statement M
 fold-spec =
     tie.close
     (tie.spec
-    add-result
-    cast-result
-    cast-result-2
-    cast-result-3
-    sub-result
-    cast-result-4
-    returns
-    returns-2
-    returns-3
-    returns-4)
+    add-result cast-result cast-result-2 cast-result-3 sub-result cast-result-4 returns returns-2
+    returns-3 returns-4)

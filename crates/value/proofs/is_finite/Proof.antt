@@ -4,28 +4,20 @@ use Rattle.value.specs.Arithmetic.{rest, signedWord, wrap, wholes, isZer
 use borrow.Author.Needs.{needs}
 use Rattle.value.proofs.is_finite.Statement.{statement}
 use Rattle.value.proofs.is_finite.Tie as tie
-use Rattle.value.proofs.is_finite.Reads as reads
-use Rattle.value.proofs.is_finite.Lts as lts
-use Rattle.value.proofs.finite_float.Reads as finite-float-reads
 
--- src/lib.rt:343:28
 enum-told : tie.Need-enum-told
 enum-told c = search needs
 
--- src/lib.rt:344:21
 enum-known-v : tie.Need-enum-known-v
 enum-known-v c = search needs
 
--- src/lib.rt:344:27
 finite-float-requires : tie.Need-finite-float-requires
 finite-float-requires c κs = search needs
 
--- src/lib.rt:339:1
 returns : tie.Need-returns
 unfolding finite
 returns c = simp (c .enum-told .given .1)
 
--- src/lib.rt:339:1
 returns-2 : tie.Need-returns-2
 unfolding finite
 returns-2 c = simp (c .finite-float .ensures, c .before .before .v .given .1)

@@ -13,23 +13,16 @@ use Rattle.value.proofs.Wrap as L
 use borrow.Author.Needs.{needs}
 use Rattle.value.proofs.narrowed.Statement.{statement}
 use Rattle.value.proofs.narrowed.Tie as tie
-use Rattle.value.proofs.narrowed.Reads as reads
-use Rattle.value.proofs.narrowed.Lts as lts
-use Rattle.value.proofs.fold.Reads as fold-reads
-use Rattle.value.proofs.rest_of.Reads as rest-of-reads
 
--- src/lib.rt:42:10
 rest-of-requires : tie.Need-rest-of-requires
 rest-of-requires c κs = search needs
 
--- src/lib.rt:42:5
 left : (c : tie.After-rest-of) → L.seen (c .rest-of .result) ≡ remZ (c .before .args .x) (pos 4294967296)
 left c = L.back64 (c .rest-of .result) (c .rest-of .ok) ∙ c .rest-of .ensures ∙ ap (λ (z : ℤ). remZ z (pos 4294967296)) (toZ-ofZ (c .before .fits .x))
 
 fold-requires : tie.Need-fold-requires
 fold-requires c κs = subst (λ (z : ℤ). mag z < 2 ^ 32) (sym (left c)) (L.rest-small (c .before .args .x))
 
--- src/lib.rt:39:1
 returns : tie.Need-returns
 returns c = L.back32 (c .fold .result) (c .fold .ok) ∙ c .fold .ensures ∙ ap folded (left (c .before)) ∙ L.wraps (c .before .before .args .x)
 

@@ -11,26 +11,19 @@ use mir.Facts.{toZ-ofZ}
 use borrow.Author.Needs.{needs}
 use Rattle.value.proofs.negated.Statement.{statement}
 use Rattle.value.proofs.negated.Tie as tie
-use Rattle.value.proofs.negated.Reads as reads
-use Rattle.value.proofs.negated.Lts as lts
 
--- src/lib.rt:101:9
 returns : tie.Need-returns
 returns c = L.zero-negative _ (c .if1 .taken)
 
--- src/lib.rt:103:14
 sub-w : tie.Need-sub-w
 sub-w c = search needs
 
--- src/lib.rt:103:13
 cast-w : tie.Need-cast-w
 cast-w c = search needs
 
--- src/lib.rt:104:5
 sub-result : tie.Need-sub-result
 sub-result c = L.negative-fits (c .before .args .v) (c .if1 .left) (c .before .pre)
 
--- src/lib.rt:96:1
 returns-2 : tie.Need-returns-2
 returns-2 c = toZ-ofZ (sub-result c) ∙ L.negative (c .before .args .v) (c .if1 .left) (c .before .pre)
 

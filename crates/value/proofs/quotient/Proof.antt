@@ -9,20 +9,13 @@ use Rattle.value.proofs.Wrap as L
 use borrow.Author.Needs.{needs}
 use Rattle.value.proofs.quotient.Statement.{statement}
 use Rattle.value.proofs.quotient.Tie as tie
-use Rattle.value.proofs.quotient.Reads as reads
-use Rattle.value.proofs.quotient.Lts as lts
-use Rattle.value.proofs.narrowed.Reads as narrowed-reads
-use Rattle.value.proofs.wide.Reads as wide-reads
 
--- src/lib.rt:67:14
 wide-requires : tie.Need-wide-requires
 wide-requires c κs = search needs
 
--- src/lib.rt:67:24
 wide-requires-2 : tie.Need-wide-requires-2
 wide-requires-2 c κs = search needs
 
--- src/lib.rt:67:14
 both : (c : tie.After-wide2) → quotZ (L.seen (c .before .wide .result)) (L.seen (c .wide2 .result)) ≡ quotZ (c .before .before .args .a) (c .before .before .args .b)
 both c =
     ap₂ (λ (x y : ℤ). quotZ x y) (L.back64 (c .before .wide .result) (c .before .wide .ok) ∙ c .before .wide .ensures ∙ toZ-ofZ (c .before .before .fits .a))
@@ -31,11 +24,9 @@ both c =
 div-narrowed : tie.Need-div-narrowed
 div-narrowed c = (L.bits-not-zero (c .wide2 .result) (record { sfits = c .wide2 .ok }) (λ e. L.not-zero (c .before .before .args .b) (c .before .before .pre) (sym (c .wide2 .ensures ∙ toZ-ofZ (c .before .before .fits .b)) ∙ e)), subst (SFits w64) (sym (both c)) (L.quotient-fits (c .before .before .args .a) (c .before .before .args .b) (c .before .before .fits .a)))
 
--- src/lib.rt:67:5
 narrowed-requires : tie.Need-narrowed-requires
 narrowed-requires c κs = search needs
 
--- src/lib.rt:63:1
 returns : tie.Need-returns
 returns c = L.back32 (c .narrowed .result) (c .narrowed .ok) ∙ c .narrowed .ensures ∙ ap wrap (toZ-ofZ (div-narrowed (c .before) .1) ∙ both (c .before))
 

@@ -12,14 +12,10 @@ use Rattle.value.proofs.Wrap as L
 use borrow.Author.Needs.{needs}
 use Rattle.value.proofs.rest_of.Statement.{statement}
 use Rattle.value.proofs.rest_of.Tie as tie
-use Rattle.value.proofs.rest_of.Reads as reads
-use Rattle.value.proofs.rest_of.Lts as lts
 
--- src/lib.rt:18:5
 rem-result : tie.Need-rem-result
 rem-result c = (omega arith, subst (λ (z : ℤ). SFits w64 (quotZ z (pos 4294967296))) (sym (toZ-ofZ (c .fits .x))) (L.quotient64-fits (c .args .x) 4294967296 (c .fits .x) (omega arith)))
 
--- src/lib.rt:15:1
 returns : tie.Need-returns
 returns c = ap (λ (z : ℤ). toZ w64 (ofZ w64 (remZ z (pos 4294967296)))) (toZ-ofZ (c .fits .x)) ∙ toZ-ofZ (L.rest-fits (c .args .x))
 

@@ -8,17 +8,12 @@ use mir.Val.{SFits, toZ, ofZ}
 use mir.Facts.{toZ-ofZ, sfits-widen}
 use Rattle.value.specs.Arithmetic.{wrap}
 use Rattle.value.specs.Fold.{folded}
-use Rattle.value.proofs.Wrap as L
 use Rattle.value.proofs.wide.Statement.{statement}
 use Rattle.value.proofs.wide.Tie as tie
-use Rattle.value.proofs.wide.Reads as reads
-use Rattle.value.proofs.wide.Lts as lts
 
--- src/lib.rt:11:5
 cast-result : tie.Need-cast-result
 cast-result c = subst (SFits w64) (sym (toZ-ofZ (c .fits .x))) (sfits-widen tt (c .fits .x))
 
--- src/lib.rt:8:1
 returns : tie.Need-returns
 returns c = toZ-ofZ (cast-result c) ∙ toZ-ofZ (c .fits .x)
 

@@ -10,41 +10,31 @@ use Rattle.value.proofs.Literals as L
 use borrow.Author.Needs.{needs}
 use Rattle.value.proofs.with_suffix.Statement.{statement}
 use Rattle.value.proofs.with_suffix.Tie as tie
-use Rattle.value.proofs.with_suffix.Reads as reads
-use Rattle.value.proofs.with_suffix.Lts as lts
-use Rattle.value.proofs.by_letter.Reads as by-letter-reads
 
--- src/lib.rt:91:43
 int-to-float-t6 : tie.Need-int-to-float-t6
 int-to-float-t6 c = search needs
 
--- src/lib.rt:91:9
 returns : tie.Need-returns
 unfolding plain
 returns c =
     ap (λ (z : ℤ). good (real (ofInt binary64 z)) (c .before .before .before .args .i)) (L.seen (c .before .before .before .args .z) (c .before .before .before .fits .z))
     ∙ L.at-end (c .before .before .before .args .z) (c .before .before .before .args .s .now) (c .before .before .before .args .i) (search needs)
 
--- src/lib.rt:93:8
 sub-if2 : tie.Need-sub-if2
 sub-if2 c = search needs
 
--- src/lib.rt:93:37
 shared-slice-read-by-letter : tie.Need-shared-slice-read-by-letter
 shared-slice-read-by-letter c = search needs
 
--- src/lib.rt:93:21
 by-letter-requires : tie.Need-by-letter-requires
 by-letter-requires c κs = search needs
 
--- src/lib.rt:85:1
 returns-2 : tie.Need-returns-2
 returns-2 c =
     c .by-letter .ensures
     ∙ ap (λ (z : ℤ). byLetter z (c .before .before .before .before .before .args .i) (getD (c .before .before .before .before .before .args .s .now) (c .before .before .before .before .before .args .i) 0)) (L.seen (c .before .before .before .before .before .args .z) (c .before .before .before .before .before .fits .z))
     ∙ L.one-letter (c .before .before .before .before .before .args .z) (c .before .before .before .before .before .args .s .now) (c .before .before .before .before .before .args .i) (search needs) (search needs)
 
--- src/lib.rt:85:1
 returns-3 : tie.Need-returns-3
 returns-3 c = L.more-letters (c .before .before .before .args .z) (c .before .before .before .args .s .now) (c .before .before .before .args .i) (search needs) (c .if2 .left)
 
@@ -52,10 +42,5 @@ pub with-suffix-spec : {M : Type 1} → statement M
 with-suffix-spec =
     tie.close
     (tie.spec
-    int-to-float-t6
-    returns
-    sub-if2
-    shared-slice-read-by-letter
-    by-letter-requires
-    returns-2
+    int-to-float-t6 returns sub-if2 shared-slice-read-by-letter by-letter-requires returns-2
     returns-3)

@@ -12,15 +12,10 @@ use lib.Signed.{nonNeg, ltZ}
 use borrow.Author.Needs.{needs}
 use Rattle.value.proofs.word_of.Statement.{statement}
 use Rattle.value.proofs.word_of.Tie as tie
-use Rattle.value.proofs.word_of.Reads as reads
-use Rattle.value.proofs.word_of.Lts as lts
-use Rattle.value.proofs.wide.Reads as wide-reads
 
--- src/lib.rt:211:13
 wide-requires : tie.Need-wide-requires
 wide-requires c κs = search needs
 
--- src/lib.rt:212:17
 lifted : (c : tie.After-wide) → L.Word (L.seen (c .wide .result) +ℤ pos 4294967296) (rest (c .before .before .args .x) 4294967296)
 lifted c =
     let e : c .wide .result ≡ c .before .before .args .x = c .wide .ensures ∙ toZ-ofZ (c .before .before .fits .x) in
@@ -32,19 +27,15 @@ kept c = L.unturned _ (c .before .fits .x) (ap (λ (z : ℤ). ltZ z (pos 0)) (sy
 add-result : tie.Need-add-result
 add-result c = lifted c .computes
 
--- src/lib.rt:212:16
 cast-result : tie.Need-cast-result
 cast-result c = lifted c .casts
 
--- src/lib.rt:212:9
 returns : tie.Need-returns
 returns c = lifted c .gives
 
--- src/lib.rt:214:5
 cast-result-2 : tie.Need-cast-result-2
 cast-result-2 c = subst (λ (z : ℤ). T (nonNeg z) × Fits w32 (natAbs z)) (sym (toZ-ofZ (c .before .fits .x))) (kept c .0)
 
--- src/lib.rt:207:1
 returns-2 : tie.Need-returns-2
 returns-2 c = ap natAbs (toZ-ofZ (c .before .fits .x)) ∙ kept c .1
 

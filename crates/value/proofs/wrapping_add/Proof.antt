@@ -8,29 +8,19 @@ use Rattle.value.proofs.Wrap as L
 use borrow.Author.Needs.{needs}
 use Rattle.value.proofs.wrapping_add.Statement.{statement}
 use Rattle.value.proofs.wrapping_add.Tie as tie
-use Rattle.value.proofs.wrapping_add.Reads as reads
-use Rattle.value.proofs.wrapping_add.Lts as lts
-use Rattle.std.proofs.num.wrapping_add_u32.Reads as wrapping-add-u32-reads
-use Rattle.value.proofs.number_of.Reads as number-of-reads
-use Rattle.value.proofs.word_of.Reads as word-of-reads
 
--- src/lib.rt:227:9
 word-of-requires : tie.Need-word-of-requires
 word-of-requires c κs = search needs
 
--- src/lib.rt:228:9
 word-of-requires-2 : tie.Need-word-of-requires-2
 word-of-requires-2 c κs = search needs
 
--- src/lib.rt:229:15
 wrapping-add-u32-requires : tie.Need-wrapping-add-u32-requires
 wrapping-add-u32-requires c κs = search needs
 
--- src/lib.rt:229:5
 number-of-requires : tie.Need-number-of-requires
 number-of-requires c κs = search needs
 
--- src/lib.rt:224:1
 first : (c : tie.After-number-of) → c .before .before .before .word-of .result ≡ rest (c .before .before .before .before .args .a) 4294967296
 first c = c .before .before .before .word-of .ensures ∙ ap (λ (z : ℤ). rest z 4294967296) (toZ-ofZ (c .before .before .before .before .fits .a))
 
@@ -48,8 +38,4 @@ pub wrapping-add-spec : {M : Type 1} → statement M
 wrapping-add-spec =
     tie.close
     (tie.spec
-    word-of-requires
-    word-of-requires-2
-    wrapping-add-u32-requires
-    number-of-requires
-    returns)
+    word-of-requires word-of-requires-2 wrapping-add-u32-requires number-of-requires returns)

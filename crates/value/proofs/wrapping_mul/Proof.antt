@@ -9,20 +9,13 @@ use Rattle.value.proofs.Wrap as L
 use borrow.Author.Needs.{needs}
 use Rattle.value.proofs.wrapping_mul.Statement.{statement}
 use Rattle.value.proofs.wrapping_mul.Tie as tie
-use Rattle.value.proofs.wrapping_mul.Reads as reads
-use Rattle.value.proofs.wrapping_mul.Lts as lts
-use Rattle.value.proofs.narrowed.Reads as narrowed-reads
-use Rattle.value.proofs.wide.Reads as wide-reads
 
--- src/lib.rt:60:14
 wide-requires : tie.Need-wide-requires
 wide-requires c κs = search needs
 
--- src/lib.rt:60:24
 wide-requires-2 : tie.Need-wide-requires-2
 wide-requires-2 c κs = search needs
 
--- src/lib.rt:60:14
 both : (c : tie.After-wide2) → L.seen (c .before .wide .result) *ℤ L.seen (c .wide2 .result) ≡ (c .before .before .args .a) *ℤ (c .before .before .args .b)
 both c =
     ap₂ (λ (x y : ℤ). x *ℤ y) (L.back64 (c .before .wide .result) (c .before .wide .ok) ∙ c .before .wide .ensures ∙ toZ-ofZ (c .before .before .fits .a))
@@ -31,11 +24,9 @@ both c =
 mul-narrowed : tie.Need-mul-narrowed
 mul-narrowed c = subst (SFits w64) (sym (both c)) (L.product-fits (c .before .before .args .a) (c .before .before .args .b) (c .before .before .fits .a) (c .before .before .fits .b))
 
--- src/lib.rt:60:5
 narrowed-requires : tie.Need-narrowed-requires
 narrowed-requires c κs = search needs
 
--- src/lib.rt:57:1
 returns : tie.Need-returns
 returns c = L.back32 (c .narrowed .result) (c .narrowed .ok) ∙ c .narrowed .ensures ∙ ap wrap (toZ-ofZ (mul-narrowed (c .before)) ∙ both (c .before))
 

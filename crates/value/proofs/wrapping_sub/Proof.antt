@@ -8,29 +8,19 @@ use Rattle.value.proofs.Wrap as L
 use borrow.Author.Needs.{needs}
 use Rattle.value.proofs.wrapping_sub.Statement.{statement}
 use Rattle.value.proofs.wrapping_sub.Tie as tie
-use Rattle.value.proofs.wrapping_sub.Reads as reads
-use Rattle.value.proofs.wrapping_sub.Lts as lts
-use Rattle.std.proofs.num.wrapping_sub_u32.Reads as wrapping-sub-u32-reads
-use Rattle.value.proofs.number_of.Reads as number-of-reads
-use Rattle.value.proofs.word_of.Reads as word-of-reads
 
--- src/lib.rt:235:9
 word-of-requires : tie.Need-word-of-requires
 word-of-requires c κs = search needs
 
--- src/lib.rt:236:9
 word-of-requires-2 : tie.Need-word-of-requires-2
 word-of-requires-2 c κs = search needs
 
--- src/lib.rt:237:15
 wrapping-sub-u32-requires : tie.Need-wrapping-sub-u32-requires
 wrapping-sub-u32-requires c κs = search needs
 
--- src/lib.rt:237:5
 number-of-requires : tie.Need-number-of-requires
 number-of-requires c κs = search needs
 
--- src/lib.rt:232:1
 first : (c : tie.After-number-of) → c .before .before .before .word-of .result ≡ rest (c .before .before .before .before .args .a) 4294967296
 first c = c .before .before .before .word-of .ensures ∙ ap (λ (z : ℤ). rest z 4294967296) (toZ-ofZ (c .before .before .before .before .fits .a))
 
@@ -48,8 +38,4 @@ pub wrapping-sub-spec : {M : Type 1} → statement M
 wrapping-sub-spec =
     tie.close
     (tie.spec
-    word-of-requires
-    word-of-requires-2
-    wrapping-sub-u32-requires
-    number-of-requires
-    returns)
+    word-of-requires word-of-requires-2 wrapping-sub-u32-requires number-of-requires returns)

@@ -1,27 +1,19 @@
 use borrow.Author.Needs.{needs}
 use Rattle.vet.proofs.tell.Statement.{statement}
 use Rattle.vet.proofs.tell.Tie as tie
-use Rattle.vet.proofs.tell.Reads as reads
-use Rattle.vet.proofs.tell.Lts as lts
-use Rattle.rules.proofs.number.Reads as number-reads
 
--- src/main.rt:21:30
 enum-told : tie.Need-enum-told
 enum-told c = search needs
 
--- src/main.rt:22:26
 enum-known-verdict : tie.Need-enum-known-verdict
 enum-known-verdict c = search needs
 
--- src/main.rt:23:21
 number-requires : tie.Need-number-requires
 number-requires c κs = search needs
 
--- src/main.rt:17:1
 returns : tie.Need-returns
 returns c = simp (c .enum-told .given .1)
 
--- src/main.rt:17:1
 returns-2 : tie.Need-returns-2
 returns-2 c = simp (c .number .ensures, c .before .before .verdict .given .1)
 

@@ -39,10 +39,5 @@ pub is-name-spec : {M : Type 1} → statement M
 is-name-spec =
     tie.close
     (tie.spec
-    returns
-    returns-2
-    shared-slice-read-starts-name
-    starts-name-requires
-    returns-3
-    run-from-requires
+    returns returns-2 shared-slice-read-starts-name starts-name-requires returns-3 run-from-requires
     returns-4)

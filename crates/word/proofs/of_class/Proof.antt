@@ -3,46 +3,33 @@ use Rattle.word.specs.Word.{inClass}
 use borrow.Author.Needs.{needs}
 use Rattle.word.proofs.of_class.Statement.{statement}
 use Rattle.word.proofs.of_class.Tie as tie
-use Rattle.word.proofs.of_class.Reads as reads
-use Rattle.word.proofs.of_class.Lts as lts
-use Rattle.text.proofs.is_blank.Reads as is-blank-reads
-use Rattle.text.proofs.is_name_byte.Reads as is-name-byte-reads
 
--- src/lib.rt:44:25
 enum-told : tie.Need-enum-told
 enum-told c = search needs
 
--- src/lib.rt:44:25
 is-blank-requires : tie.Need-is-blank-requires
 is-blank-requires c κs = search needs
 
--- src/lib.rt:45:26
 enum-told-2 : tie.Need-enum-told-2
 enum-told-2 c = search needs
 
--- src/lib.rt:45:26
 is-blank-requires-2 : tie.Need-is-blank-requires-2
 is-blank-requires-2 c κs = search needs
 
--- src/lib.rt:46:28
 enum-told-3 : tie.Need-enum-told-3
 enum-told-3 c = search needs
 
--- src/lib.rt:46:28
 is-name-byte-requires : tie.Need-is-name-byte-requires
 is-name-byte-requires c κs = search needs
 
--- src/lib.rt:40:1
 returns : tie.Need-returns
 unfolding inClass
 returns c = simp (c .is-blank .ensures, c .before .enum-told .given .1)
 
--- src/lib.rt:40:1
 returns-2 : tie.Need-returns-2
 unfolding inClass
 returns-2 c = simp (c .is-blank2 .ensures, c .before .enum-told2 .given .1)
 
--- src/lib.rt:40:1
 returns-3 : tie.Need-returns-3
 unfolding inClass
 returns-3 c = simp (c .is-name-byte .ensures, c .before .enum-told3 .given .1)
@@ -51,12 +38,5 @@ pub of-class-spec : {M : Type 1} → statement M
 of-class-spec =
     tie.close
     (tie.spec
-    enum-told
-    is-blank-requires
-    enum-told-2
-    is-blank-requires-2
-    enum-told-3
-    is-name-byte-requires
-    returns
-    returns-2
-    returns-3)
+    enum-told is-blank-requires enum-told-2 is-blank-requires-2 enum-told-3 is-name-byte-requires
+    returns returns-2 returns-3)

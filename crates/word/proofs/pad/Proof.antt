@@ -51,13 +51,5 @@ pub pad-spec : {M : Type 1} → statement M
 pad-spec =
     tie.close
     (tie.spec
-    Inv-loop
-    μ-loop
-    loop-holds
-    returns
-    shared-slice-read-b
-    array-write-b
-    add-i
-    loop-less
-    loop-again
+    Inv-loop μ-loop loop-holds returns shared-slice-read-b array-write-b add-i loop-less loop-again
     returns-2)

@@ -66,20 +66,5 @@ pub read-small-spec : {M : Type 1} → statement M
 read-small-spec =
     tie.close
     (tie.spec
-    Inv-loop
-    μ-loop
-    returns
-    loop-holds
-    shared-slice-read-c
-    is-digit-requires
-    returns-2
-    mul-v
-    sub-v
-    cast-v
-    add-v
-    returns-3
-    add-i
-    loop-less
-    loop-again
-    cast-t14
-    returns-4)
+    Inv-loop μ-loop returns loop-holds shared-slice-read-c is-digit-requires returns-2 mul-v sub-v
+    cast-v add-v returns-3 add-i loop-less loop-again cast-t14 returns-4)

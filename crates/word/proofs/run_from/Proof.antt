@@ -45,13 +45,5 @@ pub run-from-spec : {M : Type 1} → statement M
 run-from-spec =
     tie.close
     (tie.spec
-    Inv-loop
-    μ-loop
-    loop-holds
-    shared-slice-read-of-class
-    of-class-requires
-    returns
-    add-i
-    loop-less
-    loop-again
-    returns-2)
+    Inv-loop μ-loop loop-holds shared-slice-read-of-class of-class-requires returns add-i loop-less
+    loop-again returns-2)

@@ -45,13 +45,5 @@ pub same-spec : {M : Type 1} → statement M
 same-spec =
     tie.close
     (tie.spec
-    Inv-loop
-    μ-loop
-    loop-holds
-    array-read-if1
-    array-read-if1-2
-    returns
-    add-i
-    loop-less
-    loop-again
+    Inv-loop μ-loop loop-holds array-read-if1 array-read-if1-2 returns add-i loop-less loop-again
     returns-2)

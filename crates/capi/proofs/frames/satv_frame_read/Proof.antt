@@ -29,9 +29,4 @@ pub satv-frame-read-spec : {M : Type 1} → statement M
 satv-frame-read-spec =
     tie.close
     (tie.spec
-    read-frame-requires
-    enum-known-length
-    enum-known-refusal
-    number-requires
-    returns
-    returns-2)
+    read-frame-requires enum-known-length enum-known-refusal number-requires returns returns-2)

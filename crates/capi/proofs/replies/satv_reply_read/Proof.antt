@@ -25,9 +25,4 @@ pub satv-reply-read-spec : {M : Type 1} → statement M
 satv-reply-read-spec =
     tie.close
     (tie.spec
-    read-table-requires
-    enum-known-answer
-    enum-known-answer-2
-    number-requires
-    returns
-    returns-2)
+    read-table-requires enum-known-answer enum-known-answer-2 number-requires returns returns-2)

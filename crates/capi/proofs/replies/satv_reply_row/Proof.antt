@@ -40,14 +40,5 @@ pub satv-reply-row-spec : {M : Type 1} → statement M
 satv-reply-row-spec =
     tie.close
     (tie.spec
-    read-table-requires
-    enum-known-answer
-    row-of-requires
-    letter-requires
-    no-row-requires
-    enum-known-answer-2
-    number-requires
-    no-row-requires-2
-    returns
-    returns-2
-    returns-3)
+    read-table-requires enum-known-answer row-of-requires letter-requires no-row-requires
+    enum-known-answer-2 number-requires no-row-requires-2 returns returns-2 returns-3)

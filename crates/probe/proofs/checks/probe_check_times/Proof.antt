@@ -37,13 +37,5 @@ pub probe-check-times-spec : {M : Type 1} → statement M
 probe-check-times-spec =
     tie.close
     (tie.spec
-    Inv-loop
-    μ-loop
-    script-of-requires
-    loop-holds
-    check-requires
-    verdict-numbers-requires
-    add-i
-    loop-less
-    loop-again
-    returns)
+    Inv-loop μ-loop script-of-requires loop-holds check-requires verdict-numbers-requires add-i
+    loop-less loop-again returns)

@@ -49,17 +49,5 @@ pub probe-reply-spec : {M : Type 1} → statement M
 probe-reply-spec =
     tie.close
     (tie.spec
-    Inv-loop
-    μ-loop
-    table-of-requires
-    loop-holds
-    mul-row
-    element-copy-out-row
-    row-numbers-requires
-    mul-rows
-    array-set-from-rows
-    add-i
-    loop-less
-    loop-again
-    reply-numbers-requires
-    returns)
+    Inv-loop μ-loop table-of-requires loop-holds mul-row element-copy-out-row row-numbers-requires
+    mul-rows array-set-from-rows add-i loop-less loop-again reply-numbers-requires returns)

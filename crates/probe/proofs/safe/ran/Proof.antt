@@ -43,15 +43,5 @@ pub ran-spec : {M : Type 1} → statement M
 ran-spec =
     tie.close
     (tie.spec
-    Inv-loop
-    μ-loop
-    loop-holds
-    mul-said
-    element-copy-out-said
-    answer-numbers-requires
-    mul-at
-    array-set-from-at
-    add-i
-    loop-less
-    loop-again
-    returns)
+    Inv-loop μ-loop loop-holds mul-said element-copy-out-said answer-numbers-requires mul-at
+    array-set-from-at add-i loop-less loop-again returns)

@@ -46,16 +46,5 @@ pub steps-of-spec : {M : Type 1} → statement M
 steps-of-spec =
     tie.close
     (tie.spec
-    Inv-loop
-    μ-loop
-    loop-holds
-    mul-told
-    element-copy-out-told
-    control-of-requires
-    offer-of-requires
-    mul-at
-    array-set-from-at
-    add-i
-    loop-less
-    loop-again
-    returns)
+    Inv-loop μ-loop loop-holds mul-told element-copy-out-told control-of-requires offer-of-requires
+    mul-at array-set-from-at add-i loop-less loop-again returns)

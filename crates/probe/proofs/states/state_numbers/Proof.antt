@@ -46,16 +46,5 @@ pub state-numbers-spec : {M : Type 1} → statement M
 state-numbers-spec =
     tie.close
     (tie.spec
-    Inv-loop
-    μ-loop
-    loop-holds
-    mul-var
-    element-copy-out-var
-    var-numbers-requires
-    mul-vars
-    array-set-from-vars
-    add-i
-    loop-less
-    loop-again
-    status-numbers-requires
-    returns)
+    Inv-loop μ-loop loop-holds mul-var element-copy-out-var var-numbers-requires mul-vars
+    array-set-from-vars add-i loop-less loop-again status-numbers-requires returns)

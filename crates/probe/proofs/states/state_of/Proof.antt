@@ -46,16 +46,5 @@ pub state-of-spec : {M : Type 1} → statement M
 state-of-spec =
     tie.close
     (tie.spec
-    Inv-loop
-    μ-loop
-    loop-holds
-    mul-var
-    element-copy-out-var
-    var-of-requires
-    mul-vars
-    array-set-from-vars
-    add-i
-    loop-less
-    loop-again
-    status-of-requires
-    returns)
+    Inv-loop μ-loop loop-holds mul-var element-copy-out-var var-of-requires mul-vars
+    array-set-from-vars add-i loop-less loop-again status-of-requires returns)

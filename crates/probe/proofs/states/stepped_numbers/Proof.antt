@@ -49,17 +49,6 @@ pub stepped-numbers-spec : {M : Type 1} → statement M
 stepped-numbers-spec =
     tie.close
     (tie.spec
-    Inv-loop
-    μ-loop
-    loop-holds
-    mul-thing
-    element-copy-out-thing
-    thing-numbers-requires
-    mul-things
-    array-set-from-things
-    add-i
-    loop-less
-    loop-again
-    state-numbers-requires
-    answer-numbers-requires
+    Inv-loop μ-loop loop-holds mul-thing element-copy-out-thing thing-numbers-requires mul-things
+    array-set-from-things add-i loop-less loop-again state-numbers-requires answer-numbers-requires
     returns)

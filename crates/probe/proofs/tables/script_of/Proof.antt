@@ -43,15 +43,5 @@ pub script-of-spec : {M : Type 1} → statement M
 script-of-spec =
     tie.close
     (tie.spec
-    Inv-loop
-    μ-loop
-    loop-holds
-    mul-s
-    element-copy-out-s
-    slot-of-requires
-    mul-items
-    array-set-from-items
-    add-i
-    loop-less
-    loop-again
-    returns)
+    Inv-loop μ-loop loop-holds mul-s element-copy-out-s slot-of-requires mul-items
+    array-set-from-items add-i loop-less loop-again returns)

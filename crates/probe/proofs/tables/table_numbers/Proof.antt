@@ -46,16 +46,5 @@ pub table-numbers-spec : {M : Type 1} → statement M
 table-numbers-spec =
     tie.close
     (tie.spec
-    Inv-loop
-    μ-loop
-    names-of-requires
-    loop-holds
-    mul-slot
-    element-copy-out-slot
-    slot-numbers-requires
-    mul-slots
-    array-set-from-slots
-    add-i
-    loop-less
-    loop-again
-    returns)
+    Inv-loop μ-loop names-of-requires loop-holds mul-slot element-copy-out-slot
+    slot-numbers-requires mul-slots array-set-from-slots add-i loop-less loop-again returns)
