@@ -33,7 +33,7 @@ use Rattle.table.specs.Uses.{first, gives}
 use Rattle.table.specs.Shape.{inShape, itemsOf}
 use Rattle.mates.specs.Mates.{itemAt, boxesAt}
 use Rattle.machine.specs.Machine as rules
-use Rattle.machine.specs.Machine.{Run, Status, live, ended, halted, broken, Control, calm, Z, Y, Offer, nothing, one, point, done, Out, enters, leaves, Step, Chosen, into, beyond, bad, Meets, ready, short, amiss, slot, slotType, valueOf, eb, reading, holds, inside, enterOuts, enter, leave, kept, runAct, runPack, choose, chosen, runPoint, runSweep, runHead, runBranch, runEndloop, runClose, runBreak, unwind, run, quiet, meets, served, orFault, finish, faults, tries, atItem, cleared, leaveOuts, tagFrom, aborted, anyOpen, told, moved, again, isEmpty, opensOk, slotsOk, runOk, end-with, keep, write, da, ba, step}
+use Rattle.machine.specs.Machine.{Run, Status, live, finishedRun, stoppedRun, faultRun, Control, noControl, Z, Y, Offer, nothing, oneFloat, onePoint, done, Out, enters, leaves, Step, Chosen, into, beyond, bad, Meets, ready, short, amiss, cellAt, cellType, valueOf, eb, reading, holds, inside, enterOuts, enter, leave, kept, runAct, runPack, choose, chosen, runPoint, runSweep, runHead, runBranch, runEndloop, runClose, runBreak, unwind, run, asksNothing, meets, served, orFault, finish, faults, tries, atItem, cleared, leaveOuts, tagFrom, aborted, anyOpen, told, moved, again, isEmpty, opensOk, cellsOk, runOk, end-with, keep, write, da, ba, step}
 use Rattle.machine.proofs.Shapes.{and-l, and-r}
 
 abbrev Few : Step → Type 0
@@ -62,7 +62,7 @@ few-act : (m : Run) (a : Act) (o : Offer) → Few (runAct m a o)
 few-act m (var v) o = zero-le
 few-act m (store v l t) o = zero-le
 few-act m (copy a b) o = zero-le
-few-act m (calc f v x) o = few-kept m v (slotType (slot (m .vars) v)) (calculated f (valueOf (m .vars) (name v)) (valueOf (m .vars) x))
+few-act m (calc f v x) o = few-kept m v (cellType (cellAt (m .vars) v)) (calculated f (valueOf (m .vars) (name v)) (valueOf (m .vars) x))
 few-act m (meas f v t) o = few-kept m v t (checked (reading o))
 few-act m (timerGet v) o = few-kept m v eb (checked (reading o))
 few-act m (sendString t) o = omega arith
@@ -80,14 +80,14 @@ few-pack m (pckAdd v) = omega arith
 few-pack m pckEnd = omega arith
 
 few-enter : (s : Sort) (m : Run) → Few (enter s m)
-few-enter s m = go (inside (m .pc) (m .opened))
+few-enter s m = go (inside (m .at) (m .boxes))
   where
     go : (b : Bool) → length (cond b [] (enters s ∷ [])) ≤ 8
     go true = zero-le
     go false = omega arith
 
 few-leave : (xs : List Item) (s : Sort) (m : Run) → Few (leave xs s m)
-few-leave xs s m = go (inside (m .pc) (m .opened))
+few-leave xs s m = go (inside (m .at) (m .boxes))
   where
     go : (b : Bool) → length (cond b [] (enters s ∷ []) ++ (leaves s ∷ [])) ≤ 8
     go true = omega arith
@@ -99,13 +99,13 @@ few-chosen m (beyond i) = zero-le
 few-chosen m (bad n) = zero-le
 
 few-sweep : (xs : List Item) (m : Run) (w : Sweep) (o : Offer) → Few (runSweep xs m w o)
-few-sweep xs m w (point p) = few-cond (finite (real (p .potential)) && finite (real (p .current))) _ _ (few-enter sweepBox (keep m (write (write (m .vars) (w .potential) (real (p .potential)) da) (w .current) (real (p .current)) ba))) zero-le
+few-sweep xs m w (onePoint p) = few-cond (finite (real (p .potential)) && finite (real (p .current))) _ _ (few-enter sweepBox (keep m (write (write (m .vars) (w .potential) (real (p .potential)) da) (w .current) (real (p .current)) ba))) zero-le
 few-sweep xs m w done = few-leave xs sweepBox m
 few-sweep xs m w nothing = few-leave xs sweepBox m
-few-sweep xs m w (one x) = few-leave xs sweepBox m
+few-sweep xs m w (oneFloat x) = few-leave xs sweepBox m
 
 few-head : (xs : List Item) (m : Run) (h : Head) (o : Offer) → Few (runHead xs m h o)
-few-head xs m (if' c) o = few-cond (holds (m .vars) c) _ _ zero-le (few-chosen m (choose (m .vars) (m .pc) (m .pc) (boxesAt xs (m .pc)) (drop (m .pc) xs)))
+few-head xs m (if' c) o = few-cond (holds (m .vars) c) _ _ zero-le (few-chosen m (choose (m .vars) (m .at) (m .at) (boxesAt xs (m .at)) (drop (m .at) xs)))
 few-head xs m (loop c) o = few-cond (holds (m .vars) c) _ _ (few-enter loopBox m) (few-leave xs loopBox m)
 few-head xs m (sweep w) o = few-sweep xs m w o
 
@@ -126,9 +126,9 @@ few-run : (xs : List Item) (m : Run) (x : Item) (o : Offer) → Few (run xs m x 
 few-run xs m (act a) o = few-act m a o
 few-run xs m (pack p) o = few-pack m p
 few-run xs m (opens h) o = few-head xs m h o
-few-run xs m (branch b) o = few-branch xs m (m .opened)
-few-run xs m (closes e) o = few-close xs m e (m .opened)
-few-run xs m breakloop o = few-break xs m (unwind xs (m .opened))
+few-run xs m (branch b) o = few-branch xs m (m .boxes)
+few-run xs m (closes e) o = few-close xs m e (m .boxes)
+few-run xs m breakloop o = few-break xs m (unwind xs (m .boxes))
 few-run xs m tag o = zero-le
 
 few-served : (m₀ m : Run) (q : Meets) (s : Step) → Few s → Few (served m₀ m q s)
@@ -141,37 +141,37 @@ few-fault zero m s p = p
 few-fault (suc n) m s p = zero-le
 
 few-item : (xs : List Item) (m₀ m : Run) (o : Offer) (rest : List Item) → Few (atItem xs m₀ m o rest)
-few-item xs m₀ m o [] = few-fault (first ((62, not (isEmpty (m .opened))) ∷ (64, m .packed) ∷ [])) m (finish m₀ m o []) (few-served m₀ m (quiet o) _ zero-le)
+few-item xs m₀ m o [] = few-fault (first ((62, not (isEmpty (m .boxes))) ∷ (64, m .packed) ∷ [])) m (finish m₀ m o []) (few-served m₀ m (asksNothing o) _ zero-le)
 few-item xs m₀ m o (x ∷ rest) =
     few-fault (first (faults xs m x)) m (orFault (tries xs m x) m (served m₀ m (meets (gives x) o) (run xs m x o)))
     (few-fault (tries xs m x) m (served m₀ m (meets (gives x) o) (run xs m x o)) (few-served m₀ m (meets (gives x) o) (run xs m x o) (few-run xs m x o)))
 
-few-aborted : (xs : List Item) (m₀ m : Run) (o : Offer) (p : Option ℕ) → length (m .opened) ≤ 8 → Few (aborted xs m₀ m o p)
-few-aborted xs m₀ m o none h = few-served m₀ (cleared m (m .pc)) (quiet o) _ (omega (arith, few-leaves xs (m .opened)))
+few-aborted : (xs : List Item) (m₀ m : Run) (o : Offer) (p : Option ℕ) → length (m .boxes) ≤ 8 → Few (aborted xs m₀ m o p)
+few-aborted xs m₀ m o none h = few-served m₀ (cleared m (m .at)) (asksNothing o) _ (omega (arith, few-leaves xs (m .boxes)))
 few-aborted xs m₀ m o (some i) h =
-    few-cond (ltb i (m .pc)) _ _ (few-served m₀ (cleared m (m .pc)) (quiet o) _ (omega (arith, few-leaves xs (m .opened)))) (few-served m₀ (cleared m i) (quiet o) _ (omega (arith, few-leaves xs (m .opened))))
+    few-cond (ltb i (m .at)) _ _ (few-served m₀ (cleared m (m .at)) (asksNothing o) _ (omega (arith, few-leaves xs (m .boxes)))) (few-served m₀ (cleared m i) (asksNothing o) _ (omega (arith, few-leaves xs (m .boxes))))
 
-few-moved : (xs : List Item) (m₀ m : Run) (o : Offer) → length (m .opened) ≤ 8 → Few (moved xs m₀ m o)
+few-moved : (xs : List Item) (m₀ m : Run) (o : Offer) → length (m .boxes) ≤ 8 → Few (moved xs m₀ m o)
 few-moved xs m₀ m o h =
-    few-cond (m .pending && not (anyOpen isSweep xs (m .opened)) && not (m .packed)) _ _ (few-aborted xs m₀ m o (tagFrom 0 xs) h) (few-item xs m₀ m o (drop (m .pc) xs))
+    few-cond (m .pending && not (anyOpen isSweep xs (m .boxes)) && not (m .packed)) _ _ (few-aborted xs m₀ m o (tagFrom 0 xs) h) (few-item xs m₀ m o (drop (m .at) xs))
 
 few-again : (t : Status) (m : Run) (s : Step) → Few s → Few (again t m s)
 few-again live m s p = p
-few-again ended m s p = zero-le
-few-again (halted c) m s p = zero-le
-few-again (broken n) m s p = zero-le
+few-again finishedRun m s p = zero-le
+few-again (stoppedRun c) m s p = zero-le
+few-again (faultRun n) m s p = zero-le
 
-told-same : (xs : List Item) (m : Run) (c : Control) → told xs m c .opened ≡ m .opened
-told-same xs m calm = refl
+told-same : (xs : List Item) (m : Run) (c : Control) → told xs m c .boxes ≡ m .boxes
+told-same xs m noControl = refl
 told-same xs m Z = refl
 told-same xs m Y = refl
 
-few-open : (xs : List Item) (m : Run) → runOk xs m ≡ true → length (m .opened) ≤ 8
+few-open : (xs : List Item) (m : Run) → runOk xs m ≡ true → length (m .boxes) ≤ 8
 few-open xs m e =
-    leb-true (length (m .opened)) 8
-    (and-r (leb (m .pc) (length xs)) (leb (length (m .opened)) 8)
-    (and-l (leb (m .pc) (length xs) && leb (length (m .opened)) 8) (opensOk xs (m .opened))
-    (and-l (leb (m .pc) (length xs) && leb (length (m .opened)) 8 && opensOk xs (m .opened)) (slotsOk (m .vars)) e)))
+    leb-true (length (m .boxes)) 8
+    (and-r (leb (m .at) (length xs)) (leb (length (m .boxes)) 8)
+    (and-l (leb (m .at) (length xs) && leb (length (m .boxes)) 8) (opensOk xs (m .boxes))
+    (and-l (leb (m .at) (length xs) && leb (length (m .boxes)) 8 && opensOk xs (m .boxes)) (cellsOk (m .vars)) e)))
 
 pub at-most-8 : (size : ℕ) (s : Script) (m : Run) (c : Control) (o : Offer) → Few (step size s m c o)
 unfolding step

@@ -27,7 +27,7 @@ use Rattle.table.specs.declared.Item.the-variants.{Act as act, Pack as pack, Op
 use Rattle.table.specs.Item.{isSweep, opensA}
 use Rattle.table.specs.Uses.{first, gives}
 use Rattle.mates.specs.Mates.{itemAt, boxesAt}
-use Rattle.machine.specs.Machine.{Run, Status, live, ended, halted, broken, Offer, nothing, one, point, done, Out, Step, Chosen, into, beyond, bad, Meets, ready, short, amiss, slot, slotType, valueOf, eb, reading, holds, kept, runAct, runPack, choose, chosen, runPoint, runSweep, runHead, runBranch, runEndloop, runClose, runBreak, unwind, run, quiet, meets, served, orFault, finish, atEnd, faults, tries, atItem, cleared, leaveOuts, tagFrom, aborted, anyOpen, moved, again, isEmpty}
+use Rattle.machine.specs.Machine.{Run, Status, live, finishedRun, stoppedRun, faultRun, Offer, nothing, oneFloat, onePoint, done, Out, Step, Chosen, into, beyond, bad, Meets, ready, short, amiss, cellAt, cellType, valueOf, eb, reading, holds, kept, runAct, runPack, choose, chosen, runPoint, runSweep, runHead, runBranch, runEndloop, runClose, runBreak, unwind, run, asksNothing, meets, served, orFault, finish, atEnd, faults, tries, atItem, cleared, leaveOuts, tagFrom, aborted, anyOpen, moved, again, isEmpty}
 use Rattle.machine.specs.Exact.{isRefusal}
 use Rattle.machine.specs.Settle.{Faithful}
 
@@ -47,7 +47,7 @@ act-plain : (m : Run) (a : Act) (o : Offer) → Plain (runAct m a o)
 act-plain m (var v) o = refl
 act-plain m (store v l t) o = refl
 act-plain m (copy a b) o = refl
-act-plain m (calc f v x) o = kept-plain m v (slotType (slot (m .vars) v)) (calculated f (valueOf (m .vars) (name v)) (valueOf (m .vars) x))
+act-plain m (calc f v x) o = kept-plain m v (cellType (cellAt (m .vars) v)) (calculated f (valueOf (m .vars) (name v)) (valueOf (m .vars) x))
 act-plain m (meas f v t) o = kept-plain m v t (checked (reading o))
 act-plain m (timerGet v) o = kept-plain m v eb (checked (reading o))
 act-plain m (sendString t) o = refl
@@ -70,13 +70,13 @@ chosen-plain m (beyond i) = refl
 chosen-plain m (bad n) = refl
 
 sweep-plain : (xs : List Item) (m : Run) (w : Sweep) (o : Offer) → Plain (runSweep xs m w o)
-sweep-plain xs m w (point p) = plain-cond (finite (real (p .potential)) && finite (real (p .current))) _ _ refl refl
+sweep-plain xs m w (onePoint p) = plain-cond (finite (real (p .potential)) && finite (real (p .current))) _ _ refl refl
 sweep-plain xs m w done = refl
 sweep-plain xs m w nothing = refl
-sweep-plain xs m w (one x) = refl
+sweep-plain xs m w (oneFloat x) = refl
 
 head-plain : (xs : List Item) (m : Run) (h : Head) (o : Offer) → Plain (runHead xs m h o)
-head-plain xs m (if' c) o = plain-cond (holds (m .vars) c) _ _ refl (chosen-plain m (choose (m .vars) (m .pc) (m .pc) (boxesAt xs (m .pc)) (drop (m .pc) xs)))
+head-plain xs m (if' c) o = plain-cond (holds (m .vars) c) _ _ refl (chosen-plain m (choose (m .vars) (m .at) (m .at) (boxesAt xs (m .at)) (drop (m .at) xs)))
 head-plain xs m (loop c) o = plain-cond (holds (m .vars) c) _ _ refl refl
 head-plain xs m (sweep w) o = sweep-plain xs m w o
 
@@ -97,9 +97,9 @@ run-plain : (xs : List Item) (m : Run) (x : Item) (o : Offer) → Plain (run xs 
 run-plain xs m (act a) o = act-plain m a o
 run-plain xs m (pack p) o = pack-plain m p
 run-plain xs m (opens h) o = head-plain xs m h o
-run-plain xs m (branch b) o = branch-plain xs m (m .opened)
-run-plain xs m (closes e) o = close-plain xs m e (m .opened)
-run-plain xs m breakloop o = break-plain xs m (unwind xs (m .opened))
+run-plain xs m (branch b) o = branch-plain xs m (m .boxes)
+run-plain xs m (closes e) o = close-plain xs m e (m .boxes)
+run-plain xs m breakloop o = break-plain xs m (unwind xs (m .boxes))
 run-plain xs m tag o = refl
 
 plain-faithful : (m₀ : Run) (s : Step) → Plain s → Faithful m₀ s
@@ -118,10 +118,10 @@ fault-faithful zero m₀ m s f = f
 fault-faithful (suc n) m₀ m s f = plain-faithful m₀ (orFault (suc n) m s) refl
 
 finish-faithful : (m₀ m : Run) (o : Offer) (os : List Out) → Faithful m₀ (finish m₀ m o os)
-finish-faithful m₀ m o os = served-faithful m₀ m (quiet o) _ refl
+finish-faithful m₀ m o os = served-faithful m₀ m (asksNothing o) _ refl
 
 item-faithful : (xs : List Item) (m₀ m : Run) (o : Offer) (rest : List Item) → Faithful m₀ (atItem xs m₀ m o rest)
-item-faithful xs m₀ m o [] = fault-faithful (first ((62, not (isEmpty (m .opened))) ∷ (64, m .packed) ∷ [])) m₀ m (finish m₀ m o []) (finish-faithful m₀ m o [])
+item-faithful xs m₀ m o [] = fault-faithful (first ((62, not (isEmpty (m .boxes))) ∷ (64, m .packed) ∷ [])) m₀ m (finish m₀ m o []) (finish-faithful m₀ m o [])
 item-faithful xs m₀ m o (x ∷ rest) =
     fault-faithful (first (faults xs m x)) m₀ m (orFault (tries xs m x) m (served m₀ m (meets (gives x) o) (run xs m x o)))
     (fault-faithful (tries xs m x) m₀ m (served m₀ m (meets (gives x) o) (run xs m x o)) (served-faithful m₀ m (meets (gives x) o) (run xs m x o) (run-plain xs m x o)))
@@ -131,17 +131,17 @@ cond-faithful m₀ true s t p q = p
 cond-faithful m₀ false s t p q = q
 
 aborted-faithful : (xs : List Item) (m₀ m : Run) (o : Offer) (p : Option ℕ) → Faithful m₀ (aborted xs m₀ m o p)
-aborted-faithful xs m₀ m o none = finish-faithful m₀ (cleared m (m .pc)) o (leaveOuts xs (m .opened))
+aborted-faithful xs m₀ m o none = finish-faithful m₀ (cleared m (m .at)) o (leaveOuts xs (m .boxes))
 aborted-faithful xs m₀ m o (some i) =
-    cond-faithful m₀ (ltb i (m .pc)) _ _ (finish-faithful m₀ (cleared m (m .pc)) o (leaveOuts xs (m .opened))) (served-faithful m₀ (cleared m i) (quiet o) _ refl)
+    cond-faithful m₀ (ltb i (m .at)) _ _ (finish-faithful m₀ (cleared m (m .at)) o (leaveOuts xs (m .boxes))) (served-faithful m₀ (cleared m i) (asksNothing o) _ refl)
 
 moved-faithful : (xs : List Item) (m₀ m : Run) (o : Offer) → Faithful m₀ (moved xs m₀ m o)
 moved-faithful xs m₀ m o =
-    cond-faithful m₀ (m .pending && not (anyOpen isSweep xs (m .opened)) && not (m .packed)) _ _
-    (aborted-faithful xs m₀ m o (tagFrom 0 xs)) (item-faithful xs m₀ m o (drop (m .pc) xs))
+    cond-faithful m₀ (m .pending && not (anyOpen isSweep xs (m .boxes)) && not (m .packed)) _ _
+    (aborted-faithful xs m₀ m o (tagFrom 0 xs)) (item-faithful xs m₀ m o (drop (m .at) xs))
 
 pub again-faithful : (s : Status) (xs : List Item) (m₀ m : Run) (o : Offer) → Faithful m₀ (again s m₀ (moved xs m₀ m o))
 again-faithful live xs m₀ m o = moved-faithful xs m₀ m o
-again-faithful ended xs m₀ m o = plain-faithful m₀ (again ended m₀ (moved xs m₀ m o)) refl
-again-faithful (halted c) xs m₀ m o = plain-faithful m₀ (again (halted c) m₀ (moved xs m₀ m o)) refl
-again-faithful (broken n) xs m₀ m o = plain-faithful m₀ (again (broken n) m₀ (moved xs m₀ m o)) refl
+again-faithful finishedRun xs m₀ m o = plain-faithful m₀ (again finishedRun m₀ (moved xs m₀ m o)) refl
+again-faithful (stoppedRun c) xs m₀ m o = plain-faithful m₀ (again (stoppedRun c) m₀ (moved xs m₀ m o)) refl
+again-faithful (faultRun n) xs m₀ m o = plain-faithful m₀ (again (faultRun n) m₀ (moved xs m₀ m o)) refl

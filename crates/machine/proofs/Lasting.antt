@@ -40,8 +40,8 @@ use Rattle.table.specs.Shape.{inShape, itemsOf, itemsOk, itemOk, ownOk, wantsOk
 use Rattle.mates.specs.declared.Open.{Open}
 use Rattle.mates.specs.Mates.{scan, boxesAt, belongs, closeFrom, closeOf, itemAt, past}
 use Rattle.machine.specs.Machine as rules
-use Rattle.machine.specs.Machine.{Cell, unset, held, Vars, slot, slotType, valueOf, holds, write, da, ba, eb, Run, Status, live, ended, halted, broken, Control, calm, Z, Y, Offer, nothing, one, point, done, Out, Step, Chosen, into, beyond, bad, orBad, readFaults, tried, choose, Meets, ready, short, amiss}
-use Rattle.machine.specs.Machine.{goto, keep, unskip, end-with, next, pend, anyOpen, unwind, outside, inside, leaveOuts, isNone, isEmpty, faults, reads, written, kindNow, kept, reading, halt, over10, runAct, runPack, chosen, enter, leave, runPoint, runSweep, runHead, runBranch, runEndloop, runClose, runBreak, run, quiet, meets, served, orFault, finish, atEnd, tries, atItem, told, tagFrom, cleared, aborted, moved, again, slotOk, slotsOk, opensOk, runOk, step}
+use Rattle.machine.specs.Machine.{Cell, unwritten, held, Vars, cellAt, cellType, valueOf, holds, write, da, ba, eb, Run, Status, live, finishedRun, stoppedRun, faultRun, Control, noControl, Z, Y, Offer, nothing, oneFloat, onePoint, done, Out, Step, Chosen, into, beyond, bad, orBad, readFaults, tried, choose, Meets, ready, short, amiss}
+use Rattle.machine.specs.Machine.{goto, keep, unskip, end-with, next, pend, anyOpen, unwind, outside, inside, leaveOuts, isNone, isEmpty, faults, reads, written, kindNow, kept, reading, stopsBy, code0010, runAct, runPack, chosen, enter, leave, runPoint, runSweep, runHead, runBranch, runEndloop, runClose, runBreak, run, asksNothing, meets, served, orFault, finish, atEnd, tries, atItem, told, tagFrom, cleared, aborted, moved, again, cellOk, cellsOk, opensOk, runOk, step}
 use Rattle.machine.specs.Code.{boxFault}
 use Rattle.machine.specs.Moves.{ninth}
 use Rattle.machine.specs.Settle.{boxOk}
@@ -56,23 +56,23 @@ and-t : (a b : Bool) → a ≡ true → b ≡ true → (a && b) ≡ true
 and-t a b p q = rw p q
 
 pub record Shaped (xs : List Item) (m : Run) : Type 0 where
-  pub at : m .pc ≤ length xs
-  pub few : length (m .opened) ≤ 8
-  pub boxes : opensOk xs (m .opened) ≡ true
-  pub cells : slotsOk (m .vars) ≡ true
+  pub at : m .at ≤ length xs
+  pub few : length (m .boxes) ≤ 8
+  pub boxes : opensOk xs (m .boxes) ≡ true
+  pub cells : cellsOk (m .vars) ≡ true
 
 shaped-ok : (xs : List Item) (m : Run) → Shaped xs m → runOk xs m ≡ true
-shaped-ok xs m s = rw (le-leb (m .pc) (length xs) (s .at), le-leb (length (m .opened)) 8 (s .few), s .boxes) (s .cells)
+shaped-ok xs m s = rw (le-leb (m .at) (length xs) (s .at), le-leb (length (m .boxes)) 8 (s .few), s .boxes) (s .cells)
 
 ok-shaped : (xs : List Item) (m : Run) → runOk xs m ≡ true → Shaped xs m
 ok-shaped xs m e =
-    let a = and-l (leb (m .pc) (length xs) && leb (length (m .opened)) 8 && opensOk xs (m .opened)) (slotsOk (m .vars)) e in
-    let b = and-l (leb (m .pc) (length xs) && leb (length (m .opened)) 8) (opensOk xs (m .opened)) a in
+    let a = and-l (leb (m .at) (length xs) && leb (length (m .boxes)) 8 && opensOk xs (m .boxes)) (cellsOk (m .vars)) e in
+    let b = and-l (leb (m .at) (length xs) && leb (length (m .boxes)) 8) (opensOk xs (m .boxes)) a in
     record {
-      at = leb-true (m .pc) (length xs) (and-l (leb (m .pc) (length xs)) (leb (length (m .opened)) 8) b);
-      few = leb-true (length (m .opened)) 8 (and-r (leb (m .pc) (length xs)) (leb (length (m .opened)) 8) b);
-      boxes = and-r (leb (m .pc) (length xs) && leb (length (m .opened)) 8) (opensOk xs (m .opened)) a;
-      cells = and-r (leb (m .pc) (length xs) && leb (length (m .opened)) 8 && opensOk xs (m .opened)) (slotsOk (m .vars)) e;
+      at = leb-true (m .at) (length xs) (and-l (leb (m .at) (length xs)) (leb (length (m .boxes)) 8) b);
+      few = leb-true (length (m .boxes)) 8 (and-r (leb (m .at) (length xs)) (leb (length (m .boxes)) 8) b);
+      boxes = and-r (leb (m .at) (length xs) && leb (length (m .boxes)) 8) (opensOk xs (m .boxes)) a;
+      cells = and-r (leb (m .at) (length xs) && leb (length (m .boxes)) 8 && opensOk xs (m .boxes)) (cellsOk (m .vars)) e;
     }
 
 -- ---- places
@@ -136,15 +136,15 @@ within-choose vs p j st (y ∷ ys) n h =
 
 -- ---- names
 
-cells-set : (vs : Vars) (n : ℕ) (c : Cell) → slotsOk vs ≡ true → slotOk c ≡ true → slotsOk (set vs n c) ≡ true
+cells-set : (vs : Vars) (n : ℕ) (c : Cell) → cellsOk vs ≡ true → cellOk c ≡ true → cellsOk (set vs n c) ≡ true
 cells-set [] n c e f = e
-cells-set (v ∷ vs) zero c e f = rw f (and-r (slotOk v) (slotsOk vs) e)
-cells-set (v ∷ vs) (suc n) c e f = and-t (slotOk v) (slotsOk (set vs n c)) (and-l (slotOk v) (slotsOk vs) e) (cells-set vs n c (and-r (slotOk v) (slotsOk vs) e) f)
+cells-set (v ∷ vs) zero c e f = rw f (and-r (cellOk v) (cellsOk vs) e)
+cells-set (v ∷ vs) (suc n) c e f = and-t (cellOk v) (cellsOk (set vs n c)) (and-l (cellOk v) (cellsOk vs) e) (cells-set vs n c (and-r (cellOk v) (cellsOk vs) e) f)
 
-cell-at : (vs : Vars) (n : ℕ) → slotsOk vs ≡ true → slotOk (slot vs n) ≡ true
+cell-at : (vs : Vars) (n : ℕ) → cellsOk vs ≡ true → cellOk (cellAt vs n) ≡ true
 cell-at [] n e = refl
-cell-at (v ∷ vs) zero e = and-l (slotOk v) (slotsOk vs) e
-cell-at (v ∷ vs) (suc n) e = cell-at vs n (and-r (slotOk v) (slotsOk vs) e)
+cell-at (v ∷ vs) zero e = and-l (cellOk v) (cellsOk vs) e
+cell-at (v ∷ vs) (suc n) e = cell-at vs n (and-r (cellOk v) (cellsOk vs) e)
 
 abbrev Fine : Calculated → Type 0
 Fine (got v) = finite v ≡ true
@@ -192,14 +192,14 @@ opens-outside xs i (p ∷ ps) e = go (eqb p i)
     go true = and-r (boxOk xs p) (opensOk xs ps) e
     go false = e
 
-few-outside : (m : Run) → ninth m true ≡ false → length (m .opened) ≤ 8 → length (outside (m .pc) (m .opened)) < 8
-few-outside m e h = go (m .opened) e h
+few-outside : (m : Run) → ninth m true ≡ false → length (m .boxes) ≤ 8 → length (outside (m .at) (m .boxes)) < 8
+few-outside m e h = go (m .boxes) e h
   where
-    go : (ps : List ℕ) → (leb 8 (length ps) && not (inside (m .pc) ps)) ≡ false → length ps ≤ 8 → length (outside (m .pc) ps) < 8
+    go : (ps : List ℕ) → (leb 8 (length ps) && not (inside (m .at) ps)) ≡ false → length ps ≤ 8 → length (outside (m .at) ps) < 8
     go [] q k = omega arith
-    go (p ∷ ps) q k = pick (eqb p (m .pc)) refl
+    go (p ∷ ps) q k = pick (eqb p (m .at)) refl
       where
-        pick : (b : Bool) → eqb p (m .pc) ≡ b → length (cond b ps (p ∷ ps)) < 8
+        pick : (b : Bool) → eqb p (m .at) ≡ b → length (cond b ps (p ∷ ps)) < 8
         pick true z = omega arith
         pick false z = full (leb 8 (suc (length ps))) refl
           where
@@ -207,12 +207,12 @@ few-outside m e h = go (m .opened) e h
             full true y = no (sym (rw (y, z) at q))
             full false y = leb-false 8 (suc (length ps)) y
 
-few-if : (m : Run) → ninth m false ≡ false → length (m .opened) < 8
-few-if m e = full (leb 8 (length (m .opened))) refl
+few-if : (m : Run) → ninth m false ≡ false → length (m .boxes) < 8
+few-if m e = full (leb 8 (length (m .boxes))) refl
   where
-    full : (b : Bool) → leb 8 (length (m .opened)) ≡ b → length (m .opened) < 8
+    full : (b : Bool) → leb 8 (length (m .boxes)) ≡ b → length (m .boxes) < 8
     full true y = no (sym (rw y at e))
-    full false y = leb-false 8 (length (m .opened)) y
+    full false y = leb-false 8 (length (m .boxes)) y
 
 opens-unwind : (xs : List Item) (ps : List ℕ) → opensOk xs ps ≡ true → (opensOk xs (unwind xs ps) ≡ true) × (length (unwind xs ps) ≤ length ps)
 opens-unwind xs [] e = (refl, omega arith)
@@ -229,10 +229,10 @@ module _ (xs : List Item) where
   goto-lasts : (m : Run) (i : ℕ) (ps : List ℕ) → Shaped xs m → i ≤ length xs → length ps ≤ 8 → opensOk xs ps ≡ true → Shaped xs (goto m i ps)
   goto-lasts m i ps s h k e = record { at = h; few = k; boxes = e; cells = s .cells }
 
-  next-lasts : (m : Run) → Shaped xs m → m .pc < length xs → Shaped xs (next m)
-  next-lasts m s h = goto-lasts m (suc (m .pc)) (m .opened) s h (s .few) (s .boxes)
+  next-lasts : (m : Run) → Shaped xs m → m .at < length xs → Shaped xs (next m)
+  next-lasts m s h = goto-lasts m (suc (m .at)) (m .boxes) s h (s .few) (s .boxes)
 
-  keep-lasts : (m : Run) (vs : Vars) → Shaped xs m → slotsOk vs ≡ true → Shaped xs (keep m vs)
+  keep-lasts : (m : Run) (vs : Vars) → Shaped xs m → cellsOk vs ≡ true → Shaped xs (keep m vs)
   keep-lasts m vs s e = record { at = s .at; few = s .few; boxes = s .boxes; cells = e }
 
   unskip-lasts : (b : Bool) (m : Run) → Shaped xs m → Shaped xs (unskip b m)
@@ -241,23 +241,23 @@ module _ (xs : List Item) where
   end-lasts : (m : Run) (t : Status) → Shaped xs m → Shaped xs (end-with m t)
   end-lasts m t s = record { at = s .at; few = s .few; boxes = s .boxes; cells = s .cells }
 
-  kept-lasts : (m : Run) (n t : ℕ) (c : Calculated) → Shaped xs m → m .pc < length xs → Fine c → Shaped xs (kept m n t c .next)
+  kept-lasts : (m : Run) (n t : ℕ) (c : Calculated) → Shaped xs m → m .at < length xs → Fine c → Shaped xs (kept m n t c .next)
   kept-lasts m n t (got v) s h f = next-lasts (keep m (write (m .vars) n v t)) (keep-lasts m (write (m .vars) n v t) s (cells-set (m .vars) n (held v t) (s .cells) f)) h
-  kept-lasts m n t byZero s h f = end-lasts m (halted rules.zero28) s
-  kept-lasts m n t notFinite s h f = end-lasts m (halted over10) s
+  kept-lasts m n t byZero s h f = end-lasts m (stoppedRun rules.code0028) s
+  kept-lasts m n t notFinite s h f = end-lasts m (stoppedRun code0010) s
 
   module _ (names size : ℕ) where
     stored-fine : (v : ℕ) (l : Value) (t : ℕ) → itemOk names size (act (store v l t)) ≡ true → finite l ≡ true
     stored-fine v l t e = and-r (ltb v names) (finite l) e
 
-    act-lasts : (m : Run) (a : Act) (o : Offer) → Shaped xs m → m .pc < length xs → itemOk names size (act a) ≡ true → Shaped xs (runAct m a o .next)
+    act-lasts : (m : Run) (a : Act) (o : Offer) → Shaped xs m → m .at < length xs → itemOk names size (act a) ≡ true → Shaped xs (runAct m a o .next)
     act-lasts m (var v) o s h e = next-lasts m s h
     act-lasts m (store v l t) o s h e =
         next-lasts (keep m (write (m .vars) v l t)) (keep-lasts m (write (m .vars) v l t) s (cells-set (m .vars) v (held l t) (s .cells) (stored-fine v l t e))) h
     act-lasts m (copy a b) o s h e =
-        next-lasts (keep m (set (m .vars) b (slot (m .vars) a))) (keep-lasts m (set (m .vars) b (slot (m .vars) a)) s (cells-set (m .vars) b (slot (m .vars) a) (s .cells) (cell-at (m .vars) a (s .cells)))) h
+        next-lasts (keep m (set (m .vars) b (cellAt (m .vars) a))) (keep-lasts m (set (m .vars) b (cellAt (m .vars) a)) s (cells-set (m .vars) b (cellAt (m .vars) a) (s .cells) (cell-at (m .vars) a (s .cells)))) h
     act-lasts m (calc f v x) o s h e =
-        kept-lasts m v (slotType (slot (m .vars) v)) (calculated f (valueOf (m .vars) (name v)) (valueOf (m .vars) x)) s h (calculated-fine f (valueOf (m .vars) (name v)) (valueOf (m .vars) x))
+        kept-lasts m v (cellType (cellAt (m .vars) v)) (calculated f (valueOf (m .vars) (name v)) (valueOf (m .vars) x)) s h (calculated-fine f (valueOf (m .vars) (name v)) (valueOf (m .vars) x))
     act-lasts m (meas f v t) o s h e = kept-lasts m v t (checked (reading o)) s h (checked-fine (reading o))
     act-lasts m (timerGet v) o s h e = kept-lasts m v eb (checked (reading o)) s h (checked-fine (reading o))
     act-lasts m (sendString t) o s h e = next-lasts m s h
@@ -269,15 +269,15 @@ module _ (xs : List Item) where
     act-lasts m cellOff o s h e = next-lasts m s h
     act-lasts m abort o s h e = record { at = h; few = s .few; boxes = s .boxes; cells = s .cells }
 
-  pack-lasts : (m : Run) (p : Pack) → Shaped xs m → m .pc < length xs → Shaped xs (runPack m p .next)
+  pack-lasts : (m : Run) (p : Pack) → Shaped xs m → m .at < length xs → Shaped xs (runPack m p .next)
   pack-lasts m pckStart s h = record { at = h; few = s .few; boxes = s .boxes; cells = s .cells }
   pack-lasts m (pckAdd v) s h = next-lasts m s h
   pack-lasts m pckEnd s h = record { at = h; few = s .few; boxes = s .boxes; cells = s .cells }
 
-  enter-lasts : (t : Sort) (m : Run) → Shaped xs m → m .pc < length xs → boxOk xs (m .pc) ≡ true → ninth m true ≡ false → Shaped xs (enter t m .next)
+  enter-lasts : (t : Sort) (m : Run) → Shaped xs m → m .at < length xs → boxOk xs (m .at) ≡ true → ninth m true ≡ false → Shaped xs (enter t m .next)
   enter-lasts t m s h b e =
-      goto-lasts m (suc (m .pc)) (m .pc ∷ outside (m .pc) (m .opened)) s h (few-outside m e (s .few))
-      (and-t (boxOk xs (m .pc)) (opensOk xs (outside (m .pc) (m .opened))) b (opens-outside xs (m .pc) (m .opened) (s .boxes)))
+      goto-lasts m (suc (m .at)) (m .at ∷ outside (m .at) (m .boxes)) s h (few-outside m e (s .few))
+      (and-t (boxOk xs (m .at)) (opensOk xs (outside (m .at) (m .boxes))) b (opens-outside xs (m .at) (m .boxes) (s .boxes)))
 
   few-out : (i : ℕ) (ps : List ℕ) → length (outside i ps) ≤ length ps
   few-out i [] = omega arith
@@ -289,19 +289,19 @@ module _ (xs : List Item) where
 
   leave-lasts : (t : Sort) (m : Run) → Shaped xs m → Shaped xs (leave xs t m .next)
   leave-lasts t m s =
-      unskip-lasts (isSweep t) (goto m (past (closeOf xs (m .pc))) (outside (m .pc) (m .opened)))
-      (goto-lasts m (past (closeOf xs (m .pc))) (outside (m .pc) (m .opened)) s (past-within xs (m .pc)) (omega (arith, few-out (m .pc) (m .opened), s .few)) (opens-outside xs (m .pc) (m .opened) (s .boxes)))
+      unskip-lasts (isSweep t) (goto m (past (closeOf xs (m .at))) (outside (m .at) (m .boxes)))
+      (goto-lasts m (past (closeOf xs (m .at))) (outside (m .at) (m .boxes)) s (past-within xs (m .at)) (omega (arith, few-out (m .at) (m .boxes), s .few)) (opens-outside xs (m .at) (m .boxes) (s .boxes)))
 
   cond-lasts : (b : Bool) (s t : Step) → (b ≡ true → Shaped xs (s .next)) → (b ≡ false → Shaped xs (t .next)) → Shaped xs (cond b s t .next)
   cond-lasts true s t p q = p refl
   cond-lasts false s t p q = q refl
 
-  chosen-lasts : (m : Run) (c : Chosen) → Shaped xs m → length (m .opened) < 8 → boxOk xs (m .pc) ≡ true → Within c (length xs) → Shaped xs (chosen m c .next)
-  chosen-lasts m (into i) s f b w = goto-lasts m i (m .pc ∷ m .opened) s w f (and-t (boxOk xs (m .pc)) (opensOk xs (m .opened)) b (s .boxes))
-  chosen-lasts m (beyond i) s f b w = goto-lasts m i (m .opened) s w (s .few) (s .boxes)
-  chosen-lasts m (bad n) s f b w = end-lasts m (broken n) s
+  chosen-lasts : (m : Run) (c : Chosen) → Shaped xs m → length (m .boxes) < 8 → boxOk xs (m .at) ≡ true → Within c (length xs) → Shaped xs (chosen m c .next)
+  chosen-lasts m (into i) s f b w = goto-lasts m i (m .at ∷ m .boxes) s w f (and-t (boxOk xs (m .at)) (opensOk xs (m .boxes)) b (s .boxes))
+  chosen-lasts m (beyond i) s f b w = goto-lasts m i (m .boxes) s w (s .few) (s .boxes)
+  chosen-lasts m (bad n) s f b w = end-lasts m (faultRun n) s
 
-  point-lasts : (m : Run) (w : Sweep) (x y : Float) → Shaped xs m → m .pc < length xs → boxOk xs (m .pc) ≡ true → ninth m true ≡ false → Shaped xs (runPoint m w x y .next)
+  point-lasts : (m : Run) (w : Sweep) (x y : Float) → Shaped xs m → m .at < length xs → boxOk xs (m .at) ≡ true → ninth m true ≡ false → Shaped xs (runPoint m w x y .next)
   point-lasts m w x y s h b e =
       cond-lasts (finite (real x) && finite (real y)) _ _
       (λ q.
@@ -309,20 +309,20 @@ module _ (xs : List Item) where
       enter-lasts sweepBox (keep m vs)
       (keep-lasts m vs s (cells-set (write (m .vars) (w .potential) (real x) da) (w .current) (held (real y) ba) (cells-set (m .vars) (w .potential) (held (real x) da) (s .cells) (and-l (finite (real x)) (finite (real y)) q)) (and-r (finite (real x)) (finite (real y)) q)))
       h b e)
-      (λ q. end-lasts m (halted over10) s)
+      (λ q. end-lasts m (stoppedRun code0010) s)
 
-  sweep-lasts : (m : Run) (w : Sweep) (o : Offer) → Shaped xs m → m .pc < length xs → boxOk xs (m .pc) ≡ true → ninth m true ≡ false → Shaped xs (runSweep xs m w o .next)
-  sweep-lasts m w (point p) s h b e = point-lasts m w (p .potential) (p .current) s h b e
+  sweep-lasts : (m : Run) (w : Sweep) (o : Offer) → Shaped xs m → m .at < length xs → boxOk xs (m .at) ≡ true → ninth m true ≡ false → Shaped xs (runSweep xs m w o .next)
+  sweep-lasts m w (onePoint p) s h b e = point-lasts m w (p .potential) (p .current) s h b e
   sweep-lasts m w done s h b e = leave-lasts sweepBox m s
   sweep-lasts m w nothing s h b e = leave-lasts sweepBox m s
-  sweep-lasts m w (one x) s h b e = leave-lasts sweepBox m s
+  sweep-lasts m w (oneFloat x) s h b e = leave-lasts sweepBox m s
 
-  head-lasts : (m : Run) (d : Head) (o : Offer) → Shaped xs m → m .pc < length xs → boxOk xs (m .pc) ≡ true → ninth m (isLoop (sortOf d)) ≡ false → Shaped xs (runHead xs m d o .next)
+  head-lasts : (m : Run) (d : Head) (o : Offer) → Shaped xs m → m .at < length xs → boxOk xs (m .at) ≡ true → ninth m (isLoop (sortOf d)) ≡ false → Shaped xs (runHead xs m d o .next)
   head-lasts m (if' c) o s h b e =
       cond-lasts (holds (m .vars) c) _ _
-      (λ q. chosen-lasts m (into (suc (m .pc))) s (few-if m e) b h)
-      (λ q. chosen-lasts m (choose (m .vars) (m .pc) (m .pc) (boxesAt xs (m .pc)) (drop (m .pc) xs)) s (few-if m e) b
-      (within-choose (m .vars) (m .pc) (m .pc) (boxesAt xs (m .pc)) (drop (m .pc) xs) (length xs) (omega (arith, length-drop (m .pc) xs))))
+      (λ q. chosen-lasts m (into (suc (m .at))) s (few-if m e) b h)
+      (λ q. chosen-lasts m (choose (m .vars) (m .at) (m .at) (boxesAt xs (m .at)) (drop (m .at) xs)) s (few-if m e) b
+      (within-choose (m .vars) (m .at) (m .at) (boxesAt xs (m .at)) (drop (m .at) xs) (length xs) (omega (arith, length-drop (m .at) xs))))
   head-lasts m (loop c) o s h b e = cond-lasts (holds (m .vars) c) _ _ (λ q. enter-lasts loopBox m s h b e) (λ q. leave-lasts loopBox m s)
   head-lasts m (sweep w) o s h b e = sweep-lasts m w o s h b e
 
@@ -331,7 +331,7 @@ module _ (xs : List Item) where
   inner-lasts m p ps i s e f h = goto-lasts m i ps s h (omega arith) (and-r (boxOk xs p) (opensOk xs ps) e)
 
   branch-lasts : (m : Run) (ps : List ℕ) → Shaped xs m → opensOk xs ps ≡ true → length ps ≤ 8 → Shaped xs (runBranch xs m ps .next)
-  branch-lasts m [] s e f = end-lasts m (broken 62) s
+  branch-lasts m [] s e f = end-lasts m (faultRun 62) s
   branch-lasts m (p ∷ ps) s e f = inner-lasts m p ps (past (closeOf xs p)) s e f (past-within xs p)
 
   box-below : (p : ℕ) → boxOk xs p ≡ true → p ≤ length xs
@@ -339,16 +339,16 @@ module _ (xs : List Item) where
       let a = and-l (ltb p (length xs)) (isOpen (itemAt xs p)) (and-l (ltb p (length xs) && isOpen (itemAt xs p)) (not (isNone (closeOf xs p))) e) in
       omega (arith, ltb-true p (length xs) a)
 
-  close-lasts : (m : Run) (c : Close) (ps : List ℕ) → Shaped xs m → m .pc < length xs → opensOk xs ps ≡ true → length ps ≤ 8 → Shaped xs (runClose xs m c ps .next)
-  close-lasts m c [] s h e f = end-lasts m (broken 62) s
-  close-lasts m endif (p ∷ ps) s h e f = inner-lasts m p ps (suc (m .pc)) s e f h
+  close-lasts : (m : Run) (c : Close) (ps : List ℕ) → Shaped xs m → m .at < length xs → opensOk xs ps ≡ true → length ps ≤ 8 → Shaped xs (runClose xs m c ps .next)
+  close-lasts m c [] s h e f = end-lasts m (faultRun 62) s
+  close-lasts m endif (p ∷ ps) s h e f = inner-lasts m p ps (suc (m .at)) s e f h
   close-lasts m endloop (p ∷ ps) s h e f =
       cond-lasts (opensA isSweep (itemAt xs p) && (m .pending || m .skip)) _ _
-      (λ q. unskip-lasts true (goto m (suc (m .pc)) ps) (inner-lasts m p ps (suc (m .pc)) s e f h))
+      (λ q. unskip-lasts true (goto m (suc (m .at)) ps) (inner-lasts m p ps (suc (m .at)) s e f h))
       (λ q. goto-lasts m p (p ∷ ps) s (box-below p (and-l (boxOk xs p) (opensOk xs ps) e)) f e)
 
   break-lasts : (m : Run) (ps : List ℕ) → Shaped xs m → opensOk xs ps ≡ true → length ps ≤ 8 → Shaped xs (runBreak xs m ps .next)
-  break-lasts m [] s e f = end-lasts m (broken 62) s
+  break-lasts m [] s e f = end-lasts m (faultRun 62) s
   break-lasts m (p ∷ ps) s e f = unskip-lasts (opensA isSweep (itemAt xs p)) (goto m (past (closeOf xs p)) ps) (inner-lasts m p ps (past (closeOf xs p)) s e f (past-within xs p))
 
   -- ---- one step
@@ -359,29 +359,29 @@ module _ (xs : List Item) where
   no-stray false false true d e q = let z : _≡_ {A = ℕ} 62 0 = q in absurd (omega arith)
   no-stray false false false d e q = refl
 
-  opening-ok : (m : Run) (d : Head) → m .pc < length xs → itemAt xs (m .pc) ≡ opens d → first (faults xs m (opens d)) ≡ 0 → boxOk xs (m .pc) ≡ true
+  opening-ok : (m : Run) (d : Head) → m .at < length xs → itemAt xs (m .at) ≡ opens d → first (faults xs m (opens d)) ≡ 0 → boxOk xs (m .at) ≡ true
   opening-ok m d h q e =
       let f : boxFault xs m (opens d) ≡ false
       = no-stray
       (missing (written (m .vars)) (reads (opens d)))
       (wrong (kindNow (m .vars)) (reads (opens d)))
       (boxFault xs m (opens d))
-      (isOpen (opens d) && leb 8 (length (m .opened)) && not (opensA isLoop (opens d) && inside (m .pc) (m .opened)))
+      (isOpen (opens d) && leb 8 (length (m .boxes)) && not (opensA isLoop (opens d) && inside (m .at) (m .boxes)))
       (breaksOrder (opens d) (m .packed))
       e in
-      let g : isNone (closeOf xs (m .pc)) ≡ false = sym (fault-open xs m (opens d) refl) ∙ f in
-      rw (lt-ltb (m .pc) (length xs) h, q, g)
+      let g : isNone (closeOf xs (m .at)) ≡ false = sym (fault-open xs m (opens d) refl) ∙ f in
+      rw (lt-ltb (m .at) (length xs) h, q, g)
 
-  run-lasts : (names size : ℕ) (m : Run) (x : Item) (o : Offer) → Shaped xs m → m .pc < length xs → itemAt xs (m .pc) ≡ x → first (faults xs m x) ≡ 0 → itemOk names size x ≡ true
+  run-lasts : (names size : ℕ) (m : Run) (x : Item) (o : Offer) → Shaped xs m → m .at < length xs → itemAt xs (m .at) ≡ x → first (faults xs m x) ≡ 0 → itemOk names size x ≡ true
       → Shaped xs (run xs m x o .next)
   run-lasts names size m (act a) o s h q e k = act-lasts names size m a o s h k
   run-lasts names size m (pack p) o s h q e k = pack-lasts m p s h
   run-lasts names size m (opens d) o s h q e k = head-lasts m d o s h (opening-ok m d h q e) (no-ninth xs m (opens d) e)
-  run-lasts names size m (branch b) o s h q e k = branch-lasts m (m .opened) s (s .boxes) (s .few)
-  run-lasts names size m (closes c) o s h q e k = close-lasts m c (m .opened) s h (s .boxes) (s .few)
+  run-lasts names size m (branch b) o s h q e k = branch-lasts m (m .boxes) s (s .boxes) (s .few)
+  run-lasts names size m (closes c) o s h q e k = close-lasts m c (m .boxes) s h (s .boxes) (s .few)
   run-lasts names size m breakloop o s h q e k =
-      let u = opens-unwind xs (m .opened) (s .boxes) in
-      break-lasts m (unwind xs (m .opened)) s (u .0) (omega (arith, u .1, s .few))
+      let u = opens-unwind xs (m .boxes) (s .boxes) in
+      break-lasts m (unwind xs (m .boxes)) s (u .0) (omega (arith, u .1, s .few))
   run-lasts names size m tag o s h q e k = next-lasts m s h
 
   served-lasts : (m₀ m : Run) (q : Meets) (t : Step) → Shaped xs m₀ → Shaped xs m → Shaped xs (t .next) → Shaped xs (served m₀ m q t .next)
@@ -391,57 +391,57 @@ module _ (xs : List Item) where
 
   fault-lasts : (n : ℕ) (m : Run) (t : Step) → Shaped xs m → (n ≡ 0 → Shaped xs (t .next)) → Shaped xs (orFault n m t .next)
   fault-lasts zero m t s f = f refl
-  fault-lasts (suc n) m t s f = end-lasts m (broken (suc n)) s
+  fault-lasts (suc n) m t s f = end-lasts m (faultRun (suc n)) s
 
   finish-lasts : (m₀ m : Run) (o : Offer) (os : List Out) → Shaped xs m₀ → Shaped xs m → Shaped xs (finish m₀ m o os .next)
-  finish-lasts m₀ m o os a b = served-lasts m₀ m (quiet o) (record { answer = rules.finished; outs = os; next = end-with m ended }) a b (end-lasts m ended b)
+  finish-lasts m₀ m o os a b = served-lasts m₀ m (asksNothing o) (record { answer = rules.finished; outs = os; next = end-with m finishedRun }) a b (end-lasts m finishedRun b)
 
   items-at : (names size : ℕ) (ys : List Item) (i : ℕ) → itemsOk names size ys ≡ true → i < length ys → itemOk names size (getD ys i tag) ≡ true
   items-at names size [] i e h = absurd (omega arith)
   items-at names size (y ∷ ys) zero e h = and-l (itemOk names size y) (itemsOk names size ys) e
   items-at names size (y ∷ ys) (suc i) e h = items-at names size ys i (and-r (itemOk names size y) (itemsOk names size ys) e) (omega arith)
 
-  item-lasts : (names size : ℕ) (m₀ m : Run) (o : Offer) → itemsOk names size xs ≡ true → Shaped xs m₀ → Shaped xs m → Shaped xs (atItem xs m₀ m o (drop (m .pc) xs) .next)
-  item-lasts names size m₀ m o k a b = go (ltb (m .pc) (length xs)) refl
+  item-lasts : (names size : ℕ) (m₀ m : Run) (o : Offer) → itemsOk names size xs ≡ true → Shaped xs m₀ → Shaped xs m → Shaped xs (atItem xs m₀ m o (drop (m .at) xs) .next)
+  item-lasts names size m₀ m o k a b = go (ltb (m .at) (length xs)) refl
     where
-      go : (t : Bool) → ltb (m .pc) (length xs) ≡ t → Shaped xs (atItem xs m₀ m o (drop (m .pc) xs) .next)
+      go : (t : Bool) → ltb (m .at) (length xs) ≡ t → Shaped xs (atItem xs m₀ m o (drop (m .at) xs) .next)
       go true q =
-          let h = ltb-true (m .pc) (length xs) q in
-          let x = itemAt xs (m .pc) in
-          rw (drop-cons xs (m .pc) tag h)
+          let h = ltb-true (m .at) (length xs) q in
+          let x = itemAt xs (m .at) in
+          rw (drop-cons xs (m .at) tag h)
           (fault-lasts (first (faults xs m x)) m (orFault (tries xs m x) m (served m₀ m (meets (gives x) o) (run xs m x o))) b
           (λ z. fault-lasts (tries xs m x) m (served m₀ m (meets (gives x) o) (run xs m x o)) b
-          (λ y. served-lasts m₀ m (meets (gives x) o) (run xs m x o) a b (run-lasts names size m x o b h refl z (items-at names size xs (m .pc) k h)))))
+          (λ y. served-lasts m₀ m (meets (gives x) o) (run xs m x o) a b (run-lasts names size m x o b h refl z (items-at names size xs (m .at) k h)))))
       go false q =
-          rw (drop-of-length-le xs {i = m .pc} (ltb-false (m .pc) (length xs) q))
-          (fault-lasts (first ((62, not (isEmpty (m .opened))) ∷ (64, m .packed) ∷ [])) m (finish m₀ m o []) b (λ z. finish-lasts m₀ m o [] a b))
+          rw (drop-of-length-le xs {i = m .at} (ltb-false (m .at) (length xs) q))
+          (fault-lasts (first ((62, not (isEmpty (m .boxes))) ∷ (64, m .packed) ∷ [])) m (finish m₀ m o []) b (λ z. finish-lasts m₀ m o [] a b))
 
   cleared-lasts : (m : Run) (i : ℕ) → Shaped xs m → i ≤ length xs → Shaped xs (cleared m i)
   cleared-lasts m i s h = record { at = h; few = zero-le; boxes = refl; cells = s .cells }
 
   aborted-lasts : (m₀ m : Run) (o : Offer) (p : Option ℕ) → tagFrom 0 xs ≡ p → Shaped xs m₀ → Shaped xs m → Shaped xs (aborted xs m₀ m o p .next)
-  aborted-lasts m₀ m o none e a b = finish-lasts m₀ (cleared m (m .pc)) o (leaveOuts xs (m .opened)) a (cleared-lasts m (m .pc) b (b .at))
+  aborted-lasts m₀ m o none e a b = finish-lasts m₀ (cleared m (m .at)) o (leaveOuts xs (m .boxes)) a (cleared-lasts m (m .at) b (b .at))
   aborted-lasts m₀ m o (some i) e a b =
       let h = tag-below xs i e in
-      cond-lasts (ltb i (m .pc)) _ _
-      (λ q. finish-lasts m₀ (cleared m (m .pc)) o (leaveOuts xs (m .opened)) a (cleared-lasts m (m .pc) b (b .at)))
-      (λ q. served-lasts m₀ (cleared m i) (quiet o) _ a (cleared-lasts m i b (omega (arith, h))) (next-lasts (cleared m i) (cleared-lasts m i b (omega (arith, h))) h))
+      cond-lasts (ltb i (m .at)) _ _
+      (λ q. finish-lasts m₀ (cleared m (m .at)) o (leaveOuts xs (m .boxes)) a (cleared-lasts m (m .at) b (b .at)))
+      (λ q. served-lasts m₀ (cleared m i) (asksNothing o) _ a (cleared-lasts m i b (omega (arith, h))) (next-lasts (cleared m i) (cleared-lasts m i b (omega (arith, h))) h))
 
   told-lasts : (m : Run) (c : Control) → Shaped xs m → Shaped xs (told xs m c)
-  told-lasts m calm s = s
+  told-lasts m noControl s = s
   told-lasts m Z s = record { at = s .at; few = s .few; boxes = s .boxes; cells = s .cells }
   told-lasts m Y s = record { at = s .at; few = s .few; boxes = s .boxes; cells = s .cells }
 
   moved-lasts : (names size : ℕ) (m₀ m : Run) (o : Offer) → itemsOk names size xs ≡ true → Shaped xs m₀ → Shaped xs m → Shaped xs (moved xs m₀ m o .next)
   moved-lasts names size m₀ m o k a b =
-      cond-lasts (m .pending && not (anyOpen isSweep xs (m .opened)) && not (m .packed)) _ _
+      cond-lasts (m .pending && not (anyOpen isSweep xs (m .boxes)) && not (m .packed)) _ _
       (λ q. aborted-lasts m₀ m o (tagFrom 0 xs) refl a b) (λ q. item-lasts names size m₀ m o k a b)
 
   again-lasts : (t : Status) (m : Run) (s : Step) → Shaped xs m → Shaped xs (s .next) → Shaped xs (again t m s .next)
   again-lasts live m s a b = b
-  again-lasts ended m s a b = a
-  again-lasts (halted c) m s a b = a
-  again-lasts (broken n) m s a b = a
+  again-lasts finishedRun m s a b = a
+  again-lasts (stoppedRun c) m s a b = a
+  again-lasts (faultRun n) m s a b = a
 
 module _ (size : ℕ) (s : Script) (m : Run) (c : Control) (o : Offer) (t : inShape size s ≡ true) (e : runOk (itemsOf s) m ≡ true) where
   pub keeps-shape : runOk (itemsOf s) (step size s m c o .next) ≡ true
@@ -453,14 +453,14 @@ module _ (size : ℕ) (s : Script) (m : Run) (c : Control) (o : Offer) (t : inSh
       (shaped-ok (itemsOf s) _ (again-lasts (itemsOf s) (m .status) m _ a (moved-lasts (itemsOf s) (s .names) size m (told (itemsOf s) m c) o k a (told-lasts (itemsOf s) m c a))))
 
   -- an ended run repeats its answer to any control and offer, handing out nothing
-  pub ended-finished : m .status ≡ ended → step size s m c o ≡ record { answer = rules.finished; outs = []; next = m }
+  pub ended-finished : m .status ≡ finishedRun → step size s m c o ≡ record { answer = rules.finished; outs = []; next = m }
   unfolding step
   ended-finished q = rw (t, e, q)
 
-  pub ended-stopped : (n : ℕ) → m .status ≡ halted n → step size s m c o ≡ record { answer = rules.stopped n; outs = []; next = m }
+  pub ended-stopped : (n : ℕ) → m .status ≡ stoppedRun n → step size s m c o ≡ record { answer = rules.stopped n; outs = []; next = m }
   unfolding step
   ended-stopped n q = rw (t, e, q)
 
-  pub ended-fault : (n : ℕ) → m .status ≡ broken n → step size s m c o ≡ record { answer = rules.fault n; outs = []; next = m }
+  pub ended-fault : (n : ℕ) → m .status ≡ faultRun n → step size s m c o ≡ record { answer = rules.fault n; outs = []; next = m }
   unfolding step
   ended-fault n q = rw (t, e, q)

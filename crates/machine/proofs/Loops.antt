@@ -16,7 +16,7 @@ use Rattle.table.specs.declared.Head.the-variants.{If as if', Loop as loop, Swe
 use Rattle.table.specs.declared.Sort.{Sort}
 use Rattle.table.specs.Item.{isSweep, opensA}
 use Rattle.mates.specs.Mates.{boxesAt, closeOf, itemAt, past}
-use Rattle.machine.specs.Machine.{Run, Offer, Out, enters, leaves, said, next, goto, unskip, inside, outside, enter, leave, enterOuts, holds, choose, chosen, runHead, runEndloop, runBreak, runBranch, runClose, broke, leaveOuts}
+use Rattle.machine.specs.Machine.{Run, Offer, Out, enters, leaves, said, next, goto, unskip, inside, outside, enter, leave, enterOuts, holds, choose, chosen, runHead, runEndloop, runBreak, runBranch, runClose, faultsBy, leaveOuts}
 use Rattle.machine.specs.Meaning.{State, runOf, tops}
 use Rattle.machine.specs.Code.{chosenAt}
 use Rattle.machine.specs.Moves.{outer, Stands, ninth}
@@ -50,18 +50,18 @@ outer-same : (i : ℕ) (ps : List ℕ) → inside i ps ≡ false → outside i p
 outer-same i [] e = refl
 outer-same i (p ∷ ps) e = rw e
 
-pub enter-again : (s : Sort) (m : Run) → inside (m .pc) (m .opened) ≡ true → said [] (next m) ≡ enter s m
-enter-again s m e = rw (e, inner (m .pc) (m .opened) e .0)
+pub enter-again : (s : Sort) (m : Run) → inside (m .at) (m .boxes) ≡ true → said [] (next m) ≡ enter s m
+enter-again s m e = rw (e, inner (m .at) (m .boxes) e .0)
 
-pub enter-first : (s : Sort) (m : Run) → inside (m .pc) (m .opened) ≡ false → said (enters s ∷ []) (next (goto m (m .pc) (m .pc ∷ m .opened))) ≡ enter s m
-enter-first s m e = rw (e, outer-same (m .pc) (m .opened) e)
+pub enter-first : (s : Sort) (m : Run) → inside (m .at) (m .boxes) ≡ false → said (enters s ∷ []) (next (goto m (m .at) (m .at ∷ m .boxes))) ≡ enter s m
+enter-first s m e = rw (e, outer-same (m .at) (m .boxes) e)
 
-module _ (xs : List Item) (s : Sort) (m : Run) (b : Bool) (to : ℕ) (f : b ≡ isSweep s) (g : to ≡ past (closeOf xs (m .pc))) where
-  pub leave-again : inside (m .pc) (m .opened) ≡ true → said (leaves s ∷ []) (unskip b (goto m to (outer (m .opened)))) ≡ leave xs s m
-  leave-again e = rw (f, g, e, inner (m .pc) (m .opened) e .1)
+module _ (xs : List Item) (s : Sort) (m : Run) (b : Bool) (to : ℕ) (f : b ≡ isSweep s) (g : to ≡ past (closeOf xs (m .at))) where
+  pub leave-again : inside (m .at) (m .boxes) ≡ true → said (leaves s ∷ []) (unskip b (goto m to (outer (m .boxes)))) ≡ leave xs s m
+  leave-again e = rw (f, g, e, inner (m .at) (m .boxes) e .1)
 
-  pub leave-empty : inside (m .pc) (m .opened) ≡ false → said (enters s ∷ leaves s ∷ []) (unskip b (goto m to (m .opened))) ≡ leave xs s m
-  leave-empty e = rw (f, g, e, outer-same (m .pc) (m .opened) e)
+  pub leave-empty : inside (m .at) (m .boxes) ≡ false → said (enters s ∷ leaves s ∷ []) (unskip b (goto m to (m .boxes))) ≡ leave xs s m
+  leave-empty e = rw (f, g, e, outer-same (m .at) (m .boxes) e)
 
 pub if-chosen : (xs : List Item) (m : Run) (c : Condition) (o : Offer) → chosen m (chosenAt xs m (opens (if' c))) ≡ runHead xs m (if' c) o
 if-chosen xs m c o = go (holds (m .vars) c) refl

@@ -141,20 +141,20 @@ or-no : (a : Bool) → (a || false) ≡ a
 or-no true = refl
 or-no false = refl
 
-pub fault-open : (xs : List Item) (m : Run) (x : Item) → isOpen x ≡ true → boxFault xs m x ≡ isNone (closeOf xs (m .pc))
+pub fault-open : (xs : List Item) (m : Run) (x : Item) → isOpen x ≡ true → boxFault xs m x ≡ isNone (closeOf xs (m .at))
 fault-open xs m (act a) e = no′ e
 fault-open xs m (pack p) e = no′ e
-fault-open xs m (opens h) e = or-no (isNone (closeOf xs (m .pc)) || false) ∙ or-no (isNone (closeOf xs (m .pc)))
+fault-open xs m (opens h) e = or-no (isNone (closeOf xs (m .at)) || false) ∙ or-no (isNone (closeOf xs (m .at)))
 fault-open xs m (branch b) e = no′ e
 fault-open xs m (closes c) e = no′ e
 fault-open xs m breakloop e = no′ e
 fault-open xs m tag e = no′ e
 
-pub fault-mark : (xs : List Item) (m : Run) (x : Item) → (isBranch x || isClose x) ≡ true → boxFault xs m x ≡ strays x (m .opened) (boxesAt xs (m .pc))
+pub fault-mark : (xs : List Item) (m : Run) (x : Item) → (isBranch x || isClose x) ≡ true → boxFault xs m x ≡ strays x (m .boxes) (boxesAt xs (m .at))
 fault-mark xs m (act a) e = no′ e
 fault-mark xs m (pack p) e = no′ e
 fault-mark xs m (opens h) e = no′ e
-fault-mark xs m (branch b) e = or-no (strays (branch b) (m .opened) (boxesAt xs (m .pc)))
-fault-mark xs m (closes c) e = or-no (strays (closes c) (m .opened) (boxesAt xs (m .pc)))
+fault-mark xs m (branch b) e = or-no (strays (branch b) (m .boxes) (boxesAt xs (m .at)))
+fault-mark xs m (closes c) e = or-no (strays (closes c) (m .boxes) (boxesAt xs (m .at)))
 fault-mark xs m breakloop e = no′ e
 fault-mark xs m tag e = no′ e

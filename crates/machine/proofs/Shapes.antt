@@ -12,17 +12,17 @@ use borrow.Author.Tests.{leb-true}
 use Rattle.table.specs.declared.Item.{Item}
 use Rattle.table.specs.declared.Script.{Script}
 use Rattle.table.specs.Shape.{inShape, itemsOf, itemsOk}
-use Rattle.machine.specs.Machine.{Run, unset, slotOk, slotsOk, opensOk, runOk}
-use Rattle.machine.specs.Meaning.{Var, slotsOf}
+use Rattle.machine.specs.Machine.{Run, unwritten, cellOk, cellsOk, opensOk, runOk}
+use Rattle.machine.specs.Meaning.{Var, cellsOf}
 use Rattle.machine.specs.Moves.{Stands}
-use Rattle.machine.proofs.Names.{noVar, slots-get, slots-length}
+use Rattle.machine.proofs.Names.{noVar, vars-get, vars-length}
 
-pub slots-more : (vs : List Var) (i : ℕ) → i < length vs
-    → slotsOk (drop i (slotsOf vs)) ≡ (slotOk ((getD vs i noVar) .slot) && slotsOk (drop (i + 1) (slotsOf vs)))
-slots-more vs i h = rw (drop-cons (slotsOf vs) i unset (omega (arith, slots-length vs)), slots-get vs i, add-one)
+pub cells-more : (vs : List Var) (i : ℕ) → i < length vs
+    → cellsOk (drop i (cellsOf vs)) ≡ (cellOk ((getD vs i noVar) .cell) && cellsOk (drop (i + 1) (cellsOf vs)))
+cells-more vs i h = rw (drop-cons (cellsOf vs) i unwritten (omega (arith, vars-length vs)), vars-get vs i, add-one)
 
-pub slots-end : (vs : List Var) (i : ℕ) → length vs ≤ i → slotsOk (drop i (slotsOf vs)) ≡ true
-slots-end vs i h = rw (drop-of-length-le (slotsOf vs) {i = i} (omega (arith, slots-length vs)))
+pub cells-end : (vs : List Var) (i : ℕ) → length vs ≤ i → cellsOk (drop i (cellsOf vs)) ≡ true
+cells-end vs i h = rw (drop-of-length-le (cellsOf vs) {i = i} (omega (arith, vars-length vs)))
 
 pub and-l : (a b : Bool) → (a && b) ≡ true → a ≡ true
 and-l true b e = refl
@@ -34,11 +34,11 @@ and-r false b e = let z : _≡_ {A = ℕ} 0 1 = cc in absurd (omega arith)
 
 pub shape-stands : (xs : List Item) (m : Run) → length xs ≤ 128 → runOk xs m ≡ true → Stands m
 shape-stands xs m h e =
-    let a = and-l (leb (m .pc) (length xs) && leb (length (m .opened)) 8 && opensOk xs (m .opened)) (slotsOk (m .vars)) e in
-    let b = and-l (leb (m .pc) (length xs) && leb (length (m .opened)) 8) (opensOk xs (m .opened)) a in
+    let a = and-l (leb (m .at) (length xs) && leb (length (m .boxes)) 8 && opensOk xs (m .boxes)) (cellsOk (m .vars)) e in
+    let b = and-l (leb (m .at) (length xs) && leb (length (m .boxes)) 8) (opensOk xs (m .boxes)) a in
     record {
-      within = omega (arith, leb-true (m .pc) (length xs) (and-l (leb (m .pc) (length xs)) (leb (length (m .opened)) 8) b));
-      few = leb-true (length (m .opened)) 8 (and-r (leb (m .pc) (length xs)) (leb (length (m .opened)) 8) b);
+      within = omega (arith, leb-true (m .at) (length xs) (and-l (leb (m .at) (length xs)) (leb (length (m .boxes)) 8) b));
+      few = leb-true (length (m .boxes)) 8 (and-r (leb (m .at) (length xs)) (leb (length (m .boxes)) 8) b);
     }
 
 pub shape-count : (size : ℕ) (s : Script) → inShape size s ≡ true → s .count ≤ 128

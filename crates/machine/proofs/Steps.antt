@@ -16,7 +16,7 @@ use Rattle.table.specs.declared.Head.the-variants.{If as if', Loop as loop, Swe
 use Rattle.table.specs.Item.{isOpen, isTag, isLoop, isSweep, opensA}
 use Rattle.table.specs.Uses.{first, gives, missing, wrong, breaksOrder}
 use Rattle.mates.specs.Mates.{itemAt}
-use Rattle.machine.specs.Machine.{Run, Offer, Control, calm, Z, Y, Step, anyOpen, inside, tagFrom, faults, broke, orFault, served, meets, run, tries, badOf, holds, atItem, atEnd, told, written, kindNow, reads}
+use Rattle.machine.specs.Machine.{Run, Offer, Control, noControl, Z, Y, Step, anyOpen, inside, tagFrom, faults, faultsBy, orFault, served, meets, run, tries, badOf, holds, atItem, atEnd, told, written, kindNow, reads}
 use Rattle.machine.specs.Meaning.{Fault, faultNumber, unwrittenFault, kindFault, boxFault, depthFault, packageFault}
 use Rattle.machine.specs.Code as code
 use Rattle.machine.specs.Code.{chosenAt}
@@ -65,12 +65,12 @@ and-assoc false b c = refl
 
 pub no-ninth : (xs : List Item) (m : Run) (x : Item) → first (faults xs m x) ≡ 0 → (isOpen x && ninth m (opensA isLoop x)) ≡ false
 no-ninth xs m x e =
-    sym (and-assoc (isOpen x) (leb 8 (length (m .opened))) (not (opensA isLoop x && inside (m .pc) (m .opened))))
+    sym (and-assoc (isOpen x) (leb 8 (length (m .boxes))) (not (opensA isLoop x && inside (m .at) (m .boxes))))
     ∙ none-of
     (missing (written (m .vars)) (reads x))
     (wrong (kindNow (m .vars)) (reads x))
     (code.boxFault xs m x)
-    (isOpen x && leb 8 (length (m .opened)) && not (opensA isLoop x && inside (m .pc) (m .opened)))
+    (isOpen x && leb 8 (length (m .boxes)) && not (opensA isLoop x && inside (m .at) (m .boxes)))
     (breaksOrder x (m .packed))
     e
 
@@ -89,11 +89,11 @@ tries-is xs m (closes e) = refl
 tries-is xs m breakloop = refl
 tries-is xs m tag = refl
 
-module _ (xs : List Item) (m₀ m : Run) (o : Offer) (x : Item) (h : m .pc < length xs) (q : itemAt xs (m .pc) ≡ x) where
-  pub item-faults : (f : Fault) → first (faults xs m x) ≡ faultNumber f → broke (faultNumber f) m ≡ atItem xs m₀ m o (drop (m .pc) xs)
-  item-faults f e = rw (drop-cons xs (m .pc) tag h, q, e) (number f)
+module _ (xs : List Item) (m₀ m : Run) (o : Offer) (x : Item) (h : m .at < length xs) (q : itemAt xs (m .at) ≡ x) where
+  pub item-faults : (f : Fault) → first (faults xs m x) ≡ faultNumber f → faultsBy (faultNumber f) m ≡ atItem xs m₀ m o (drop (m .at) xs)
+  item-faults f e = rw (drop-cons xs (m .at) tag h, q, e) (number f)
     where
-      number : (f : Fault) → broke (faultNumber f) m ≡ orFault (faultNumber f) m (orFault (tries xs m x) m (served m₀ m (meets (gives x) o) (run xs m x o)))
+      number : (f : Fault) → faultsBy (faultNumber f) m ≡ orFault (faultNumber f) m (orFault (tries xs m x) m (served m₀ m (meets (gives x) o) (run xs m x o)))
       number unwrittenFault = refl
       number kindFault = refl
       number boxFault = refl
@@ -101,32 +101,32 @@ module _ (xs : List Item) (m₀ m : Run) (o : Offer) (x : Item) (h : m .pc < len
       number packageFault = refl
 
   pub item-runs : first (faults xs m x) ≡ 0
-      → orFault (badOf (chosenAt xs m x)) m (served m₀ m (meets (gives x) o) (run xs m x o)) ≡ atItem xs m₀ m o (drop (m .pc) xs)
-  item-runs e = rw (drop-cons xs (m .pc) tag h, q, e, tries-is xs m x)
+      → orFault (badOf (chosenAt xs m x)) m (served m₀ m (meets (gives x) o) (run xs m x o)) ≡ atItem xs m₀ m o (drop (m .at) xs)
+  item-runs e = rw (drop-cons xs (m .at) tag h, q, e, tries-is xs m x)
 
-pub at-end : (xs : List Item) (m₀ m : Run) (o : Offer) → length xs ≤ m .pc → atEnd m₀ m o ≡ atItem xs m₀ m o (drop (m .pc) xs)
-at-end xs m₀ m o h = rw (drop-of-length-le xs {i = m .pc} h)
+pub at-end : (xs : List Item) (m₀ m : Run) (o : Offer) → length xs ≤ m .at → atEnd m₀ m o ≡ atItem xs m₀ m o (drop (m .at) xs)
+at-end xs m₀ m o h = rw (drop-of-length-le xs {i = m .at} h)
 
 -- ---- the control
 
-pub told-is : (xs : List Item) (m : Run) (b : Bool) (c : Control) → b ≡ anyOpen isSweep xs (m .opened) → toldIn b m c ≡ told xs m c
-told-is xs m b calm e = refl
+pub told-is : (xs : List Item) (m : Run) (b : Bool) (c : Control) → b ≡ anyOpen isSweep xs (m .boxes) → toldIn b m c ≡ told xs m c
+told-is xs m b noControl e = refl
 told-is xs m b Z e = refl
 told-is xs m b Y e = rw e
 
 pub told-stands : (b : Bool) (m : Run) (c : Control) → Stands m → Stands (toldIn b m c)
-told-stands b m calm s = s
+told-stands b m noControl s = s
 told-stands b m Z s = record { within = s .within; few = s .few }
 told-stands b m Y s = record { within = s .within; few = s .few }
 
-pub told-open : (b : Bool) (m : Run) (c : Control) → toldIn b m c .opened ≡ m .opened
-told-open b m calm = refl
+pub told-open : (b : Bool) (m : Run) (c : Control) → toldIn b m c .boxes ≡ m .boxes
+told-open b m noControl = refl
 told-open b m Z = refl
 told-open b m Y = refl
 
-pub broke-is : (f : Fault) (m : Run) (s : Step) → broke (faultNumber f) m ≡ orFault (faultNumber f) m s
-broke-is unwrittenFault m s = refl
-broke-is kindFault m s = refl
-broke-is boxFault m s = refl
-broke-is depthFault m s = refl
-broke-is packageFault m s = refl
+pub faults-by-is : (f : Fault) (m : Run) (s : Step) → faultsBy (faultNumber f) m ≡ orFault (faultNumber f) m s
+faults-by-is unwrittenFault m s = refl
+faults-by-is kindFault m s = refl
+faults-by-is boxFault m s = refl
+faults-by-is depthFault m s = refl
+faults-by-is packageFault m s = refl

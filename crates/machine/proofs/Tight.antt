@@ -10,9 +10,9 @@ use lib.Seq.{ext-getD, getD-drop, length-take-le}
 use borrow.Author.Tests.{ltb-true, ltb-false}
 use Rattle.table.specs.declared.Script.{Script}
 use Rattle.machine.specs.Machine as rules
-use Rattle.machine.specs.Machine.{Run, Out, nought, enters, leaves, packStart, packEnd, packPart, says, waits, setsE, setsMode, cell, Step, Control, Offer}
-use Rattle.machine.specs.Meaning.{Var, Stop, byZero, notFinite, Fault, unwrittenFault, kindFault, boxFault, depthFault, packageFault, Refusal, shapeRefusal, readingRefusal, Status, live, ended, halted, broken, State, Answer, running, waiting, finished, stopped, fault, refused}
-use Rattle.machine.specs.Meaning.{Order, orderWait, orderSetE, orderSetMode, orderCellOn, orderCellOff, What, noThing, entered, left, started, part, ends, text, order, Thing, Stepped, codeOf, faultNumber, refusalNumber, tops, slotsOf, statusOf, runOf, answerOf, orderOf, outOf, outsOf, meaning, Neat}
+use Rattle.machine.specs.Machine.{Run, Out, nought, enters, leaves, packStart, packEnd, packPart, says, waits, setsE, setsMode, switchesCell, Step, Control, Offer}
+use Rattle.machine.specs.Meaning.{Var, Stop, byZero, notFinite, Fault, unwrittenFault, kindFault, boxFault, depthFault, packageFault, Refusal, shapeRefusal, readingRefusal, Status, live, finishedRun, stoppedRun, faultRun, State, Answer, running, waiting, finished, stopped, fault, refused}
+use Rattle.machine.specs.Meaning.{Order, orderWait, orderSetE, orderSetMode, orderCellOn, orderCellOff, What, noThing, entered, left, started, part, ends, text, order, Thing, Stepped, codeOf, faultNumber, refusalNumber, tops, cellsOf, statusOf, runOf, answerOf, orderOf, outOf, outsOf, meaning, Neat}
 use Rattle.machine.specs.Exact.{Exact, isRefusal}
 use Rattle.machine.proofs.Boxes.{tops-length}
 use Rattle.machine.proofs.Things.{outs-length}
@@ -48,16 +48,16 @@ refusal-back readingRefusal = refl
 
 statusBack : rules.Status → Status
 statusBack rules.live = live
-statusBack rules.ended = ended
-statusBack (rules.halted n) = halted (stopBack n)
-statusBack (rules.broken n) = broken (faultBack n)
+statusBack rules.finishedRun = finishedRun
+statusBack (rules.stoppedRun n) = stoppedRun (stopBack n)
+statusBack (rules.faultRun n) = faultRun (faultBack n)
 
 status-back : (s : Status) → statusBack (statusOf s) ≡ s
 unfolding statusBack
 status-back live = refl
-status-back ended = refl
-status-back (halted s) = rw (stop-back s)
-status-back (broken f) = rw (fault-back f)
+status-back finishedRun = refl
+status-back (stoppedRun s) = rw (stop-back s)
+status-back (faultRun f) = rw (fault-back f)
 
 answerBack : rules.Answer → Answer
 answerBack rules.running = running
@@ -87,8 +87,8 @@ whatBack (says t) = text t
 whatBack (waits v) = order (orderWait v)
 whatBack (setsE v) = order (orderSetE v)
 whatBack (setsMode n) = order (orderSetMode n)
-whatBack (cell true) = order orderCellOn
-whatBack (cell false) = order orderCellOff
+whatBack (switchesCell true) = order orderCellOn
+whatBack (switchesCell false) = order orderCellOff
 
 what-back : (w : What) → whatBack (outOf w) ≡ w
 unfolding whatBack
@@ -118,9 +118,9 @@ things-back (t ∷ ts) = rw (what-back (t .what), things-back ts)
 
 varsBack : rules.Vars → List Var
 varsBack [] = []
-varsBack (c ∷ cs) = record { slot = c } ∷ varsBack cs
+varsBack (c ∷ cs) = record { cell = c } ∷ varsBack cs
 
-vars-back : (vs : List Var) → varsBack (slotsOf vs) ≡ vs
+vars-back : (vs : List Var) → varsBack (cellsOf vs) ≡ vs
 unfolding varsBack
 vars-back [] = refl
 vars-back (v ∷ vs) = rw (vars-back vs)
@@ -164,8 +164,8 @@ state-from m = refl
 
 same-state : (a b : State) → length (a .boxes) ≡ 8 → length (b .boxes) ≡ 8 → runOf a ≡ runOf b → Neat a → Neat b → a ≡ b
 same-state a b p q e f g =
-    let i : a .at ≡ b .at = ap (λ (m : Run). m .pc) e in
-    let o : tops (a .boxes) (a .depth) ≡ tops (b .boxes) (b .depth) = ap (λ (m : Run). m .opened) e in
+    let i : a .at ≡ b .at = ap (λ (m : Run). m .at) e in
+    let o : tops (a .boxes) (a .depth) ≡ tops (b .boxes) (b .depth) = ap (λ (m : Run). m .boxes) e in
     let d : a .depth ≡ b .depth = sym (tops-length (a .boxes) (a .depth)) ∙ ap length o ∙ tops-length (b .boxes) (b .depth) in
     let o′ : tops (a .boxes) (a .depth) ≡ tops (b .boxes) (a .depth) = o ∙ ap (λ (n : ℕ). tops (b .boxes) n) (sym d) in
     let g′ : drop (a .depth) (b .boxes) ≡ replicate (8 - a .depth) 0 = rw d g in

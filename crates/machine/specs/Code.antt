@@ -60,7 +60,7 @@ troubleOf (because f) = faultNumber f
 
 -- 62 of the item x at which the run stands
 abbrev pub boxFault : List Item → Run → Item → Bool
-boxFault xs m x = isOpen x && isNone (closeOf xs (m .pc)) || (isBranch x || isClose x) && strays x (m .opened) (boxesAt xs (m .pc)) || isBreak x && isEmpty (unwind xs (m .opened))
+boxFault xs m x = isOpen x && isNone (closeOf xs (m .at)) || (isBranch x || isClose x) && strays x (m .boxes) (boxesAt xs (m .at)) || isBreak x && isEmpty (unwind xs (m .boxes))
 
 abbrev pub meetsOf : Meets → rules.Meets
 meetsOf ready = rules.ready
@@ -85,7 +85,7 @@ triedAt xs vs p j r = cond (belongs p (itemAt xs j) (boxesAt xs j)) (tried vs (i
 abbrev pub chosenAt : List Item → Run → Item → rules.Chosen
 chosenAt xs m (act a) = rules.into 0
 chosenAt xs m (pack p) = rules.into 0
-chosenAt xs m (opens (if' c)) = cond (holds (m .vars) c) (rules.into (suc (m .pc))) (choose (m .vars) (m .pc) (m .pc) (boxesAt xs (m .pc)) (drop (m .pc) xs))
+chosenAt xs m (opens (if' c)) = cond (holds (m .vars) c) (rules.into (suc (m .at))) (choose (m .vars) (m .at) (m .at) (boxesAt xs (m .at)) (drop (m .at) xs))
 chosenAt xs m (opens (loop c)) = rules.into 0
 chosenAt xs m (opens (sweep w)) = rules.into 0
 chosenAt xs m (branch b) = rules.into 0

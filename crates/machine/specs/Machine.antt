@@ -44,44 +44,44 @@ use Rattle.table.specs.Shape.{itemsOf, inShape}
 use Rattle.mates.specs.declared.Open.{Open}
 use Rattle.mates.specs.Mates.{scan, boxesAt, belongs, closeOf, itemAt, past}
 pub use Rattle.machine.specs.declared.Cell.{Cell}
-pub use Rattle.machine.specs.declared.Cell.the-variants.{Unwritten as unset, Holds as held}
+pub use Rattle.machine.specs.declared.Cell.the-variants.{Unwritten as unwritten, Holds as held}
 pub use Rattle.machine.specs.declared.Control.{Control}
-pub use Rattle.machine.specs.declared.Control.the-variants.{None as calm, Z, Y}
+pub use Rattle.machine.specs.declared.Control.the-variants.{None as noControl, Z, Y}
 pub use Rattle.machine.specs.declared.Offer.{Offer}
-pub use Rattle.machine.specs.declared.Offer.the-variants.{Nothing as nothing, Float as one, Point as point, Done as done}
+pub use Rattle.machine.specs.declared.Offer.the-variants.{Nothing as nothing, Float as oneFloat, Point as onePoint, Done as done}
 
 -- ---- the names: unwritten, or a value and its type
 
 abbrev pub Vars : Type 0
 Vars = List Cell
 
-abbrev pub slot : Vars → ℕ → Cell
-slot vs n = getD vs n unset
+abbrev pub cellAt : Vars → ℕ → Cell
+cellAt vs n = getD vs n unwritten
 
-abbrev pub isSet : Cell → Bool
-isSet unset = false
-isSet (held v t) = true
+abbrev pub isWritten : Cell → Bool
+isWritten unwritten = false
+isWritten (held v t) = true
 
-abbrev pub slotKind : Cell → Known
-slotKind unset = unknown
-slotKind (held v t) = known (kindOf v)
+abbrev pub cellKind : Cell → Known
+cellKind unwritten = unknown
+cellKind (held v t) = known (kindOf v)
 
-abbrev pub slotValue : Cell → Value
-slotValue unset = whole (pos 0)
-slotValue (held v t) = v
+abbrev pub cellValue : Cell → Value
+cellValue unwritten = whole (pos 0)
+cellValue (held v t) = v
 
-abbrev pub slotType : Cell → ℕ
-slotType unset = 0
-slotType (held v t) = t
+abbrev pub cellType : Cell → ℕ
+cellType unwritten = 0
+cellType (held v t) = t
 
 abbrev pub written : Vars → ℕ → Bool
-written vs n = isSet (slot vs n)
+written vs n = isWritten (cellAt vs n)
 
 abbrev pub kindNow : Vars → ℕ → Known
-kindNow vs n = slotKind (slot vs n)
+kindNow vs n = cellKind (cellAt vs n)
 
 abbrev pub valueOf : Vars → Operand → Value
-valueOf vs (name n) = slotValue (slot vs n)
+valueOf vs (name n) = cellValue (cellAt vs n)
 valueOf vs (literal l) = l
 
 abbrev pub holds : Vars → Condition → Bool
@@ -104,20 +104,20 @@ eb = 101 * 256 + 98
 
 -- running; finished; stopped by a code; or by a fault's number
 pub data Status : Type 0 where
-  live ended : Status
-  halted broken : ℕ → Status
+  live finishedRun : Status
+  stoppedRun faultRun : ℕ → Status
 
 -- the codes 0028 and 0010, in hex
-abbrev pub zero28 : ℕ
-zero28 = 2 * 16 + 8
+abbrev pub code0028 : ℕ
+code0028 = 2 * 16 + 8
 
-abbrev pub over10 : ℕ
-over10 = 1 * 16 + 0
+abbrev pub code0010 : ℕ
+code0010 = 1 * 16 + 0
 
--- opened: the places of the open boxes, innermost first
+-- boxes: the places of the open boxes, innermost first
 pub record Run : Type 0 where
-  pub pc : ℕ
-  pub opened : List ℕ
+  pub at : ℕ
+  pub boxes : List ℕ
   pub vars : Vars
   pub pending : Bool
   pub skip : Bool
@@ -133,7 +133,7 @@ pub data Out : Type 0 where
   says : Text → Out
   waits setsE : Value → Out
   setsMode : ℕ → Out
-  cell : Bool → Out
+  switchesCell : Bool → Out
 
 -- stopped by a code, a fault by its number, refused by a number
 pub data Answer : Type 0 where
@@ -146,27 +146,27 @@ pub record Step : Type 0 where
   pub next : Run
 
 abbrev pub fresh : Run
-fresh = record { pc = 0; opened = []; vars = replicate 32 unset; pending = false; skip = false; packed = false; status = live }
+fresh = record { at = 0; boxes = []; vars = replicate 32 unwritten; pending = false; skip = false; packed = false; status = live }
 
 -- the run at item i with the boxes ps open
 abbrev pub goto : Run → ℕ → List ℕ → Run
-goto m i ps = record { pc = i; opened = ps; vars = m .vars; pending = m .pending; skip = m .skip; packed = m .packed; status = m .status }
+goto m i ps = record { at = i; boxes = ps; vars = m .vars; pending = m .pending; skip = m .skip; packed = m .packed; status = m .status }
 
 abbrev pub keep : Run → Vars → Run
-keep m vs = record { pc = m .pc; opened = m .opened; vars = vs; pending = m .pending; skip = m .skip; packed = m .packed; status = m .status }
+keep m vs = record { at = m .at; boxes = m .boxes; vars = vs; pending = m .pending; skip = m .skip; packed = m .packed; status = m .status }
 
 -- the skip is dropped where a measuring loop is left
 abbrev pub unskip : Bool → Run → Run
-unskip b m = record { pc = m .pc; opened = m .opened; vars = m .vars; pending = m .pending; skip = m .skip && not b; packed = m .packed; status = m .status }
+unskip b m = record { at = m .at; boxes = m .boxes; vars = m .vars; pending = m .pending; skip = m .skip && not b; packed = m .packed; status = m .status }
 
 abbrev pub end-with : Run → Status → Run
-end-with m s = record { pc = m .pc; opened = m .opened; vars = m .vars; pending = m .pending; skip = m .skip; packed = m .packed; status = s }
+end-with m s = record { at = m .at; boxes = m .boxes; vars = m .vars; pending = m .pending; skip = m .skip; packed = m .packed; status = s }
 
 abbrev pub packing : Run → Bool → Run
-packing m b = record { pc = m .pc; opened = m .opened; vars = m .vars; pending = m .pending; skip = m .skip; packed = b; status = m .status }
+packing m b = record { at = m .at; boxes = m .boxes; vars = m .vars; pending = m .pending; skip = m .skip; packed = b; status = m .status }
 
 abbrev pub pend : Run → Run
-pend m = record { pc = m .pc; opened = m .opened; vars = m .vars; pending = true; skip = m .skip; packed = m .packed; status = m .status }
+pend m = record { at = m .at; boxes = m .boxes; vars = m .vars; pending = true; skip = m .skip; packed = m .packed; status = m .status }
 
 -- ---- the open boxes
 
@@ -219,8 +219,8 @@ abbrev pub faults : List Item → Run → Item → List (ℕ × Bool)
 faults xs m x =
     (60, missing (written (m .vars)) (reads x))
     ∷ (61, wrong (kindNow (m .vars)) (reads x))
-    ∷ (62, isOpen x && isNone (closeOf xs (m .pc)) || (isBranch x || isClose x) && strays x (m .opened) (boxesAt xs (m .pc)) || isBreak x && isEmpty (unwind xs (m .opened)))
-    ∷ (63, isOpen x && leb 8 (length (m .opened)) && not (opensA isLoop x && inside (m .pc) (m .opened)))
+    ∷ (62, isOpen x && isNone (closeOf xs (m .at)) || (isBranch x || isClose x) && strays x (m .boxes) (boxesAt xs (m .at)) || isBreak x && isEmpty (unwind xs (m .boxes)))
+    ∷ (63, isOpen x && leb 8 (length (m .boxes)) && not (opensA isLoop x && inside (m .at) (m .boxes)))
     ∷ (64, breaksOrder x (m .packed))
     ∷ []
 
@@ -229,32 +229,32 @@ faults xs m x =
 abbrev pub said : List Out → Run → Step
 said os m = record { answer = running; outs = os; next = m }
 
-abbrev pub broke : ℕ → Run → Step
-broke n m = record { answer = fault n; outs = []; next = end-with m (broken n) }
+abbrev pub faultsBy : ℕ → Run → Step
+faultsBy n m = record { answer = fault n; outs = []; next = end-with m (faultRun n) }
 
-abbrev pub halt : ℕ → Run → Step
-halt s m = record { answer = stopped s; outs = []; next = end-with m (halted s) }
+abbrev pub stopsBy : ℕ → Run → Step
+stopsBy s m = record { answer = stopped s; outs = []; next = end-with m (stoppedRun s) }
 
 abbrev pub next : Run → Run
-next m = goto m (suc (m .pc)) (m .opened)
+next m = goto m (suc (m .at)) (m .boxes)
 
 -- a result or a reading is kept, or the run stops and no name is changed
 abbrev pub kept : Run → ℕ → ℕ → Calculated → Step
 kept m n t (got v) = said [] (next (keep m (write (m .vars) n v t)))
-kept m n t byZero = halt zero28 m
-kept m n t notFinite = halt over10 m
+kept m n t byZero = stopsBy code0028 m
+kept m n t notFinite = stopsBy code0010 m
 
 abbrev pub reading : Offer → Float
 reading nothing = nan
-reading (one x) = x
-reading (point p) = nan
+reading (oneFloat x) = x
+reading (onePoint p) = nan
 reading done = nan
 
 abbrev pub runAct : Run → Act → Offer → Step
 runAct m (var v) o = said [] (next m)
 runAct m (store v l t) o = said [] (next (keep m (write (m .vars) v l t)))
-runAct m (copy a b) o = said [] (next (keep m (set (m .vars) b (slot (m .vars) a))))
-runAct m (calc f v x) o = kept m v (slotType (slot (m .vars) v)) (calculated f (valueOf (m .vars) (name v)) (valueOf (m .vars) x))
+runAct m (copy a b) o = said [] (next (keep m (set (m .vars) b (cellAt (m .vars) a))))
+runAct m (calc f v x) o = kept m v (cellType (cellAt (m .vars) v)) (calculated f (valueOf (m .vars) (name v)) (valueOf (m .vars) x))
 runAct m (meas f v t) o = kept m v t (checked (reading o))
 runAct m (timerGet v) o = kept m v eb (checked (reading o))
 runAct m (sendString t) o = said (says t ∷ []) (next m)
@@ -262,14 +262,14 @@ runAct m (wait f) o = said (waits (valueOf (m .vars) f) ∷ []) (next m)
 runAct m (setE f) o = said (setsE (valueOf (m .vars) f) ∷ []) (next m)
 runAct m (setMode n) o = said (setsMode n ∷ []) (next m)
 runAct m timerStart o = said [] (next m)
-runAct m cellOn o = said (cell true ∷ []) (next m)
-runAct m cellOff o = said (cell false ∷ []) (next m)
+runAct m cellOn o = said (switchesCell true ∷ []) (next m)
+runAct m cellOff o = said (switchesCell false ∷ []) (next m)
 runAct m abort o = said [] (next (pend m))
 
 abbrev pub runPack : Run → Pack → Step
 runPack m pckStart = said (packStart ∷ []) (next (packing m true))
 runPack m pckEnd = said (packEnd ∷ []) (next (packing m false))
-runPack m (pckAdd v) = said (packPart (slotValue (slot (m .vars) v)) (slotType (slot (m .vars) v)) ∷ []) (next m)
+runPack m (pckAdd v) = said (packPart (cellValue (cellAt (m .vars) v)) (cellType (cellAt (m .vars) v)) ∷ []) (next m)
 
 -- where a false condition leads: into a branch, past endif, or to a fault of the elseif tried
 pub data Chosen : Type 0 where
@@ -296,58 +296,58 @@ choose vs p j st [] = bad 62
 choose vs p j st (x ∷ xs) = let r = choose vs p (suc j) (scan j x st) xs in cond (belongs p x st) (tried vs x j r) r
 
 abbrev pub chosen : Run → Chosen → Step
-chosen m (into i) = said [] (goto m i (m .pc ∷ m .opened))
-chosen m (beyond i) = said [] (goto m i (m .opened))
-chosen m (bad n) = broke n m
+chosen m (into i) = said [] (goto m i (m .at ∷ m .boxes))
+chosen m (beyond i) = said [] (goto m i (m .boxes))
+chosen m (bad n) = faultsBy n m
 
 -- the mark that a loop's first entering hands out
 abbrev pub enterOuts : Sort → Run → List Out
-enterOuts s m = cond (inside (m .pc) (m .opened)) [] (enters s ∷ [])
+enterOuts s m = cond (inside (m .at) (m .boxes)) [] (enters s ∷ [])
 
 abbrev pub enter : Sort → Run → Step
-enter s m = said (enterOuts s m) (goto m (suc (m .pc)) (m .pc ∷ outside (m .pc) (m .opened)))
+enter s m = said (enterOuts s m) (goto m (suc (m .at)) (m .at ∷ outside (m .at) (m .boxes)))
 
 abbrev pub leave : List Item → Sort → Run → Step
-leave xs s m = said (enterOuts s m ++ (leaves s ∷ [])) (unskip (isSweep s) (goto m (past (closeOf xs (m .pc))) (outside (m .pc) (m .opened))))
+leave xs s m = said (enterOuts s m ++ (leaves s ∷ [])) (unskip (isSweep s) (goto m (past (closeOf xs (m .at))) (outside (m .at) (m .boxes))))
 
 abbrev pub runPoint : Run → Sweep → Float → Float → Step
-runPoint m w x y = cond (finite (real x) && finite (real y)) (enter sweepBox (keep m (write (write (m .vars) (w .potential) (real x) da) (w .current) (real y) ba))) (halt over10 m)
+runPoint m w x y = cond (finite (real x) && finite (real y)) (enter sweepBox (keep m (write (write (m .vars) (w .potential) (real x) da) (w .current) (real y) ba))) (stopsBy code0010 m)
 
 abbrev pub runSweep : List Item → Run → Sweep → Offer → Step
-runSweep xs m w (point p) = runPoint m w (p .potential) (p .current)
+runSweep xs m w (onePoint p) = runPoint m w (p .potential) (p .current)
 runSweep xs m w done = leave xs sweepBox m
 runSweep xs m w nothing = leave xs sweepBox m
-runSweep xs m w (one x) = leave xs sweepBox m
+runSweep xs m w (oneFloat x) = leave xs sweepBox m
 
 abbrev pub runHead : List Item → Run → Head → Offer → Step
-runHead xs m (if' c) o = cond (holds (m .vars) c) (said [] (goto m (suc (m .pc)) (m .pc ∷ m .opened))) (chosen m (choose (m .vars) (m .pc) (m .pc) (boxesAt xs (m .pc)) (drop (m .pc) xs)))
+runHead xs m (if' c) o = cond (holds (m .vars) c) (said [] (goto m (suc (m .at)) (m .at ∷ m .boxes))) (chosen m (choose (m .vars) (m .at) (m .at) (boxesAt xs (m .at)) (drop (m .at) xs)))
 runHead xs m (loop c) o = cond (holds (m .vars) c) (enter loopBox m) (leave xs loopBox m)
 runHead xs m (sweep w) o = runSweep xs m w o
 
 -- past the closing mark of the innermost box
 abbrev pub runBranch : List Item → Run → List ℕ → Step
-runBranch xs m [] = broke 62 m
+runBranch xs m [] = faultsBy 62 m
 runBranch xs m (p ∷ ps) = said [] (goto m (past (closeOf xs p)) ps)
 
 abbrev pub runEndloop : List Item → Run → ℕ → List ℕ → Step
-runEndloop xs m p ps = cond (opensA isSweep (itemAt xs p) && (m .pending || m .skip)) (said (leaves sweepBox ∷ []) (unskip true (goto m (suc (m .pc)) ps))) (said [] (goto m p (p ∷ ps)))
+runEndloop xs m p ps = cond (opensA isSweep (itemAt xs p) && (m .pending || m .skip)) (said (leaves sweepBox ∷ []) (unskip true (goto m (suc (m .at)) ps))) (said [] (goto m p (p ∷ ps)))
 
 abbrev pub runClose : List Item → Run → Close → List ℕ → Step
-runClose xs m e [] = broke 62 m
-runClose xs m endif (p ∷ ps) = said [] (goto m (suc (m .pc)) ps)
+runClose xs m e [] = faultsBy 62 m
+runClose xs m endif (p ∷ ps) = said [] (goto m (suc (m .at)) ps)
 runClose xs m endloop (p ∷ ps) = runEndloop xs m p ps
 
 abbrev pub runBreak : List Item → Run → List ℕ → Step
-runBreak xs m [] = broke 62 m
+runBreak xs m [] = faultsBy 62 m
 runBreak xs m (p ∷ ps) = said (leaveOuts xs (p ∷ [])) (unskip (opensA isSweep (itemAt xs p)) (goto m (past (closeOf xs p)) ps))
 
 abbrev pub run : List Item → Run → Item → Offer → Step
 run xs m (act a) o = runAct m a o
 run xs m (pack p) o = runPack m p
 run xs m (opens h) o = runHead xs m h o
-run xs m (branch b) o = runBranch xs m (m .opened)
-run xs m (closes e) o = runClose xs m e (m .opened)
-run xs m breakloop o = runBreak xs m (unwind xs (m .opened))
+run xs m (branch b) o = runBranch xs m (m .boxes)
+run xs m (closes e) o = runClose xs m e (m .boxes)
+run xs m breakloop o = runBreak xs m (unwind xs (m .boxes))
 run xs m tag o = said [] (next m)
 
 -- ---- one step
@@ -356,29 +356,29 @@ run xs m tag o = said [] (next m)
 pub data Meets : Type 0 where
   ready short amiss : Meets
 
-abbrev pub quiet : Offer → Meets
-quiet nothing = ready
-quiet (one x) = amiss
-quiet (point p) = amiss
-quiet done = amiss
+abbrev pub asksNothing : Offer → Meets
+asksNothing nothing = ready
+asksNothing (oneFloat x) = amiss
+asksNothing (onePoint p) = amiss
+asksNothing done = amiss
 
-abbrev pub asksOne : Offer → Meets
-asksOne nothing = short
-asksOne (one x) = ready
-asksOne (point p) = amiss
-asksOne done = amiss
+abbrev pub asksFloat : Offer → Meets
+asksFloat nothing = short
+asksFloat (oneFloat x) = ready
+asksFloat (onePoint p) = amiss
+asksFloat done = amiss
 
 abbrev pub asksPoint : Offer → Meets
 asksPoint nothing = short
-asksPoint (one x) = amiss
-asksPoint (point p) = ready
+asksPoint (oneFloat x) = amiss
+asksPoint (onePoint p) = ready
 asksPoint done = ready
 
 -- a float that an item writes comes with the offer: one for meas and timer_get, two in a point
 abbrev pub meets : List Give → Offer → Meets
-meets [] o = quiet o
-meets (like n x ∷ gs) o = quiet o
-meets (float n ∷ []) o = asksOne o
+meets [] o = asksNothing o
+meets (like n x ∷ gs) o = asksNothing o
+meets (float n ∷ []) o = asksFloat o
 meets (float n ∷ g ∷ gs) o = asksPoint o
 
 -- the state before the step is kept by a refusal; what the control made of it by a wait
@@ -389,13 +389,13 @@ served m₀ m amiss s = record { answer = refuse 31; outs = []; next = m₀ }
 
 abbrev pub orFault : ℕ → Run → Step → Step
 orFault zero m s = s
-orFault (suc n) m s = broke (suc n) m
+orFault (suc n) m s = faultsBy (suc n) m
 
 abbrev pub finish : Run → Run → Offer → List Out → Step
-finish m₀ m o os = served m₀ m (quiet o) (record { answer = finished; outs = os; next = end-with m ended })
+finish m₀ m o os = served m₀ m (asksNothing o) (record { answer = finished; outs = os; next = end-with m finishedRun })
 
 abbrev pub atEnd : Run → Run → Offer → Step
-atEnd m₀ m o = orFault (first ((62, not (isEmpty (m .opened))) ∷ (64, m .packed) ∷ [])) m (finish m₀ m o [])
+atEnd m₀ m o = orFault (first ((62, not (isEmpty (m .boxes))) ∷ (64, m .packed) ∷ [])) m (finish m₀ m o [])
 
 -- the fault of the mates that a false condition tries, 0 where there is none
 abbrev pub badOf : Chosen → ℕ
@@ -406,7 +406,7 @@ badOf (bad n) = n
 abbrev pub tries : List Item → Run → Item → ℕ
 tries xs m (act a) = 0
 tries xs m (pack p) = 0
-tries xs m (opens (if' c)) = cond (holds (m .vars) c) 0 (badOf (choose (m .vars) (m .pc) (m .pc) (boxesAt xs (m .pc)) (drop (m .pc) xs)))
+tries xs m (opens (if' c)) = cond (holds (m .vars) c) 0 (badOf (choose (m .vars) (m .at) (m .at) (boxesAt xs (m .at)) (drop (m .at) xs)))
 tries xs m (opens (loop c)) = 0
 tries xs m (opens (sweep w)) = 0
 tries xs m (branch b) = 0
@@ -421,9 +421,9 @@ atItem xs m₀ m o (x ∷ rest) = orFault (first (faults xs m x)) m (orFault (tr
 
 -- Z asks for an abort; Y, inside a measuring loop, for a skip
 abbrev pub told : List Item → Run → Control → Run
-told xs m calm = m
+told xs m noControl = m
 told xs m Z = pend m
-told xs m Y = record { pc = m .pc; opened = m .opened; vars = m .vars; pending = m .pending; skip = m .skip || anyOpen isSweep xs (m .opened); packed = m .packed; status = m .status }
+told xs m Y = record { at = m .at; boxes = m .boxes; vars = m .vars; pending = m .pending; skip = m .skip || anyOpen isSweep xs (m .boxes); packed = m .packed; status = m .status }
 
 -- the first tag from item i on
 abbrev pub tagFrom : ℕ → List Item → Option ℕ
@@ -432,31 +432,31 @@ tagFrom i (x ∷ xs) = let r = tagFrom (suc i) xs in cond (isTag x) (some i) r
 
 -- all boxes closed, at item i
 abbrev pub cleared : Run → ℕ → Run
-cleared m i = record { pc = i; opened = []; vars = m .vars; pending = false; skip = false; packed = m .packed; status = m .status }
+cleared m i = record { at = i; boxes = []; vars = m .vars; pending = false; skip = false; packed = m .packed; status = m .status }
 
 -- the tag itself does nothing, and with no box and no package open it has no fault
 abbrev pub aborted : List Item → Run → Run → Offer → Option ℕ → Step
-aborted xs m₀ m o none = finish m₀ (cleared m (m .pc)) o (leaveOuts xs (m .opened))
-aborted xs m₀ m o (some i) = cond (ltb i (m .pc)) (finish m₀ (cleared m (m .pc)) o (leaveOuts xs (m .opened))) (served m₀ (cleared m i) (quiet o) (said (leaveOuts xs (m .opened)) (next (cleared m i))))
+aborted xs m₀ m o none = finish m₀ (cleared m (m .at)) o (leaveOuts xs (m .boxes))
+aborted xs m₀ m o (some i) = cond (ltb i (m .at)) (finish m₀ (cleared m (m .at)) o (leaveOuts xs (m .boxes))) (served m₀ (cleared m i) (asksNothing o) (said (leaveOuts xs (m .boxes)) (next (cleared m i))))
 
 abbrev pub moved : List Item → Run → Run → Offer → Step
-moved xs m₀ m o = cond (m .pending && not (anyOpen isSweep xs (m .opened)) && not (m .packed)) (aborted xs m₀ m o (tagFrom 0 xs)) (atItem xs m₀ m o (drop (m .pc) xs))
+moved xs m₀ m o = cond (m .pending && not (anyOpen isSweep xs (m .boxes)) && not (m .packed)) (aborted xs m₀ m o (tagFrom 0 xs)) (atItem xs m₀ m o (drop (m .at) xs))
 
 abbrev pub again : Status → Run → Step → Step
 again live m s = s
-again ended m s = record { answer = finished; outs = []; next = m }
-again (halted c) m s = record { answer = stopped c; outs = []; next = m }
-again (broken n) m s = record { answer = fault n; outs = []; next = m }
+again finishedRun m s = record { answer = finished; outs = []; next = m }
+again (stoppedRun c) m s = record { answer = stopped c; outs = []; next = m }
+again (faultRun n) m s = record { answer = fault n; outs = []; next = m }
 
 -- ---- the state's shape
 
-abbrev pub slotOk : Cell → Bool
-slotOk unset = true
-slotOk (held v t) = finite v
+abbrev pub cellOk : Cell → Bool
+cellOk unwritten = true
+cellOk (held v t) = finite v
 
-abbrev pub slotsOk : Vars → Bool
-slotsOk [] = true
-slotsOk (v ∷ vs) = slotOk v && slotsOk vs
+abbrev pub cellsOk : Vars → Bool
+cellsOk [] = true
+cellsOk (v ∷ vs) = cellOk v && cellsOk vs
 
 abbrev pub opensOk : List Item → List ℕ → Bool
 opensOk xs [] = true
@@ -464,7 +464,7 @@ opensOk xs (p ∷ ps) = ltb p (length xs) && isOpen (itemAt xs p) && not (isNone
 
 -- the item number at most the item count, at most 8 open boxes each at an opening item with a closing mate, every written float finite
 abbrev pub runOk : List Item → Run → Bool
-runOk xs m = leb (m .pc) (length xs) && leb (length (m .opened)) 8 && opensOk xs (m .opened) && slotsOk (m .vars)
+runOk xs m = leb (m .at) (length xs) && leb (length (m .boxes)) 8 && opensOk xs (m .boxes) && cellsOk (m .vars)
 
 abbrev pub shapeless : Run → Step
 shapeless m = record { answer = refuse 30; outs = []; next = m }

@@ -4,7 +4,7 @@ use mathlib.Core.Path.{_≡_}
 use mathlib.Core.Bool.{Bool, true, false}
 use mathlib.Core.List.{List, [], _∷_}
 use lib.ListN.{getD, take, drop, replicate}
-use Rattle.machine.specs.Machine.{Cell, Vars, Run, Out, enters, leaves, packStart, packEnd, packPart, says, waits, setsE, setsMode, cell, nought, Step, zero28, over10}
+use Rattle.machine.specs.Machine.{Cell, Vars, Run, Out, enters, leaves, packStart, packEnd, packPart, says, waits, setsE, setsMode, switchesCell, nought, Step, code0028, code0010}
 use Rattle.machine.specs.Machine as rules
 pub use Rattle.machine.specs.declared.Var.{Var}
 pub use Rattle.machine.specs.declared.Stop.{Stop}
@@ -14,7 +14,7 @@ pub use Rattle.machine.specs.declared.Fault.the-variants.{Unwritten as u
 pub use Rattle.machine.specs.declared.Refusal.{Refusal}
 pub use Rattle.machine.specs.declared.Refusal.the-variants.{Shape as shapeRefusal, Reading as readingRefusal}
 pub use Rattle.machine.specs.declared.Status.{Status}
-pub use Rattle.machine.specs.declared.Status.the-variants.{Live as live, Finished as ended, Stopped as halted, Fault as broken}
+pub use Rattle.machine.specs.declared.Status.the-variants.{Live as live, Finished as finishedRun, Stopped as stoppedRun, Fault as faultRun}
 pub use Rattle.machine.specs.declared.State.{State}
 pub use Rattle.machine.specs.declared.Answer.{Answer}
 pub use Rattle.machine.specs.declared.Answer.the-variants.{Running as running, Waiting as waiting, Finished as finished, Stopped as stopped, Fault as fault, Refused as refused}
@@ -28,8 +28,8 @@ pub use Rattle.machine.specs.declared.Stepped.{Stepped}
 -- ---- the numbers
 
 abbrev pub codeOf : Stop → ℕ
-codeOf byZero = zero28
-codeOf notFinite = over10
+codeOf byZero = code0028
+codeOf notFinite = code0010
 
 abbrev pub faultNumber : Fault → ℕ
 faultNumber unwrittenFault = 60
@@ -49,21 +49,21 @@ abbrev pub tops : List ℕ → ℕ → List ℕ
 tops l zero = []
 tops l (suc n) = getD l n 0 ∷ tops l n
 
-abbrev pub slotsOf : List Var → Vars
-slotsOf [] = []
-slotsOf (v ∷ vs) = v .slot ∷ slotsOf vs
+abbrev pub cellsOf : List Var → Vars
+cellsOf [] = []
+cellsOf (v ∷ vs) = v .cell ∷ cellsOf vs
 
 abbrev pub statusOf : Status → rules.Status
 statusOf live = rules.live
-statusOf ended = rules.ended
-statusOf (halted s) = rules.halted (codeOf s)
-statusOf (broken f) = rules.broken (faultNumber f)
+statusOf finishedRun = rules.finishedRun
+statusOf (stoppedRun s) = rules.stoppedRun (codeOf s)
+statusOf (faultRun f) = rules.faultRun (faultNumber f)
 
 abbrev pub runOf : State → Run
 runOf m = record {
-  pc = m .at;
-  opened = tops (m .boxes) (m .depth);
-  vars = slotsOf (m .vars);
+  at = m .at;
+  boxes = tops (m .boxes) (m .depth);
+  vars = cellsOf (m .vars);
   pending = m .pending;
   skip = m .skip;
   packed = m .packed;
@@ -84,8 +84,8 @@ abbrev pub orderOf : Order → Out
 orderOf (orderWait v) = waits v
 orderOf (orderSetE v) = setsE v
 orderOf (orderSetMode n) = setsMode n
-orderOf orderCellOn = cell true
-orderOf orderCellOff = cell false
+orderOf orderCellOn = switchesCell true
+orderOf orderCellOff = switchesCell false
 
 abbrev pub outOf : What → Out
 outOf noThing = nought

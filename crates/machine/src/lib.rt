@@ -42,13 +42,13 @@ ghost use Rattle.table.specs.Shape.{itemsOf};
 ghost use Rattle.mates.specs.Mates.{belongs, boxesAt, closeOf, itemAt, past};
 ghost use Rattle.mates.specs.Marks.{noMark, Marked};
 ghost use Rattle.machine.specs.Machine as rules;
-ghost use Rattle.machine.specs.Machine.{slot, isSet, slotKind, slotValue, slotType, valueOf, holds};
-ghost use Rattle.machine.specs.Machine.{keep, goto, next, packing, pend, unskip, said, broke, halt};
+ghost use Rattle.machine.specs.Machine.{cellAt, isWritten, cellKind, cellValue, cellType, valueOf, holds};
+ghost use Rattle.machine.specs.Machine.{keep, goto, next, packing, pend, unskip, said, faultsBy, stopsBy};
 ghost use Rattle.machine.specs.Meaning.{runOf, Neat, faultNumber, codeOf, refusalNumber, statusOf, answerOf, tops};
 ghost use Rattle.machine.specs.Meaning.{outOf, noThing, meaning};
 ghost use Rattle.machine.specs.Machine.{anyOpen, unwind, leaveOuts, inside, strays, readFaults, tried, choose, kept, runAct, runPack};
 ghost use Rattle.machine.specs.Machine.{enter, leave, write, da, ba, runPoint, runSweep, runHead, chosen, runBranch, runEndloop, runClose, runBreak};
-ghost use Rattle.machine.specs.Machine.{quiet, served, orFault, badOf, finish, atEnd, atItem, told, tagFrom, cleared, aborted, moved, again, slotOk, slotsOk, opensOk, runOk};
+ghost use Rattle.machine.specs.Machine.{asksNothing, served, orFault, badOf, finish, atEnd, atItem, told, tagFrom, cleared, aborted, moved, again, cellOk, cellsOk, opensOk, runOk};
 ghost use Rattle.machine.specs.Exact.{Exact, isRefusal};
 ghost use Rattle.machine.specs.Settle.{Faithful, Settled, boxOk};
 ghost use Rattle.machine.specs.Moves.{outer, Stands, ninth, skipped, toldIn, placeOf};
@@ -96,7 +96,7 @@ pub enum Cell {
 }
 
 pub struct Var {
-    pub slot: Cell,
+    pub cell: Cell,
 }
 
 // The codes 0028 and 0010.
@@ -218,7 +218,7 @@ pub fn fresh() -> State
     ensures { λ r. ⌜ (runOf r ≡ rules.fresh) × Neat r ⌝ }
 {
     let vars = [Var {
-        slot: Cell::Unwritten,
+        cell: Cell::Unwritten,
     }; 32];
     State {
         at: 0,
@@ -234,19 +234,19 @@ pub fn fresh() -> State
 
 // ---- the names
 
-fn slot_of(m: State, n: usize) -> Cell
-    ensures { λ r. ⌜ r ≡ slot (runOf m .vars) n ⌝ }
+fn cell_at(m: State, n: usize) -> Cell
+    ensures { λ r. ⌜ r ≡ cellAt (runOf m .vars) n ⌝ }
 {
     if n < NAMES {
         let v = m.vars[n];
-        v.slot
+        v.cell
     } else {
         Cell::Unwritten
     }
 }
 
 fn cell_value(c: Cell) -> Value
-    ensures { λ r. ⌜ r ≡ slotValue c ⌝ }
+    ensures { λ r. ⌜ r ≡ cellValue c ⌝ }
 {
     match c {
         Cell::Unwritten => Value::Whole(0),
@@ -255,7 +255,7 @@ fn cell_value(c: Cell) -> Value
 }
 
 fn cell_type(c: Cell) -> u16
-    ensures { λ r. ⌜ r ≡ slotType c ⌝ }
+    ensures { λ r. ⌜ r ≡ cellType c ⌝ }
 {
     match c {
         Cell::Unwritten => 0,
@@ -264,7 +264,7 @@ fn cell_type(c: Cell) -> u16
 }
 
 fn cell_kind(c: Cell) -> Known
-    ensures { λ r. ⌜ r ≡ slotKind c ⌝ }
+    ensures { λ r. ⌜ r ≡ cellKind c ⌝ }
 {
     match c {
         Cell::Unwritten => Known::Unknown,
@@ -272,8 +272,8 @@ fn cell_kind(c: Cell) -> Known
     }
 }
 
-fn cell_set(c: Cell) -> bool
-    ensures { λ r. ⌜ r ≡ isSet c ⌝ }
+fn is_written(c: Cell) -> bool
+    ensures { λ r. ⌜ r ≡ isWritten c ⌝ }
 {
     match c {
         Cell::Unwritten => false,
@@ -283,14 +283,14 @@ fn cell_set(c: Cell) -> bool
 
 // Which names are written.
 fn written_names(m: State) -> [bool; 32]
-    ensures { λ r. ⌜ r ≡ map isSet (runOf m .vars) ⌝ }
+    ensures { λ r. ⌜ r ≡ map isWritten (runOf m .vars) ⌝ }
 {
     let mut t = [false; 32];
     let mut i = 0;
     while i < NAMES {
         let v = m.vars[i];
-        let c = v.slot;
-        t[i] = cell_set(c);
+        let c = v.cell;
+        t[i] = is_written(c);
         i += 1;
     }
     t
@@ -298,13 +298,13 @@ fn written_names(m: State) -> [bool; 32]
 
 // The kinds of what the names hold.
 fn kinds_now(m: State) -> [Known; 32]
-    ensures { λ r. ⌜ r ≡ map slotKind (runOf m .vars) ⌝ }
+    ensures { λ r. ⌜ r ≡ map cellKind (runOf m .vars) ⌝ }
 {
     let mut t = [Known::Unknown; 32];
     let mut i = 0;
     while i < NAMES {
         let v = m.vars[i];
-        let c = v.slot;
+        let c = v.cell;
         t[i] = cell_kind(c);
         i += 1;
     }
@@ -315,7 +315,7 @@ fn operand_value(m: State, x: Operand) -> Value
     ensures { λ r. ⌜ r ≡ valueOf (runOf m .vars) x ⌝ }
 {
     match x {
-        Operand::Name(n) => cell_value(slot_of(m, n)),
+        Operand::Name(n) => cell_value(cell_at(m, n)),
         Operand::Literal(l) => l,
     }
 }
@@ -334,7 +334,7 @@ fn put_cell(m: State, n: usize, c: Cell) -> State
 {
     if n < NAMES {
         let mut t = m;
-        t.vars[n] = Var { slot: c };
+        t.vars[n] = Var { cell: c };
         t
     } else {
         m
@@ -361,7 +361,7 @@ fn with_status(m: State, status: Status) -> State
 }
 
 fn go_to(m: State, i: usize) -> State
-    ensures { λ r. ⌜ runOf r ≡ goto (runOf m) i (runOf m .opened) ⌝ }
+    ensures { λ r. ⌜ runOf r ≡ goto (runOf m) i (runOf m .boxes) ⌝ }
 {
     let mut t = m;
     t.at = i;
@@ -415,7 +415,7 @@ fn cut_boxes(m: State, d: usize) -> State
 
 fn push_box(m: State, p: usize) -> State
     requires { ⌜ m .depth < 8 ⌝ }
-    ensures { λ r. ⌜ runOf r ≡ goto (runOf m) (m .at) (p ∷ runOf m .opened) ⌝ }
+    ensures { λ r. ⌜ runOf r ≡ goto (runOf m) (m .at) (p ∷ runOf m .boxes) ⌝ }
 {
     let mut t = m;
     let d = t.depth;
@@ -472,14 +472,14 @@ fn hand_out_two(m: State, v: What, w: What) -> Stepped
     }
 }
 
-fn broke_by(m: State, f: Fault) -> Stepped
-    ensures { λ r. ⌜ meaning r ≡ broke (faultNumber f) (runOf m) ⌝ }
+fn fault_by(m: State, f: Fault) -> Stepped
+    ensures { λ r. ⌜ meaning r ≡ faultsBy (faultNumber f) (runOf m) ⌝ }
 {
     answered(with_status(m, Status::Fault(f)), Answer::Fault(f))
 }
 
-fn halt_by(m: State, s: Stop) -> Stepped
-    ensures { λ r. ⌜ meaning r ≡ halt (codeOf s) (runOf m) ⌝ }
+fn stop_by(m: State, s: Stop) -> Stepped
+    ensures { λ r. ⌜ meaning r ≡ stopsBy (codeOf s) (runOf m) ⌝ }
 {
     answered(with_status(m, Status::Stopped(s)), Answer::Stopped(s))
 }
@@ -624,7 +624,7 @@ fn close_of(marks: Marks, p: usize) -> usize
 // Whether a measuring loop is open.
 fn any_sweep(marks: Marks, m: State) -> bool
     requires { ⌜ m .depth ≤ 8 ⌝ }
-    ensures { λ r. ⌜ Seen (marks .at) (λ xs. r ≡ anyOpen isSweep xs (runOf m .opened)) ⌝ }
+    ensures { λ r. ⌜ Seen (marks .at) (λ xs. r ≡ anyOpen isSweep xs (runOf m .boxes)) ⌝ }
 {
     let mut k = m.depth;
     while 0 < k {
@@ -640,7 +640,7 @@ fn any_sweep(marks: Marks, m: State) -> bool
 // How many boxes are open up to the innermost open loop, with it.
 fn loop_depth(marks: Marks, m: State) -> usize
     requires { ⌜ m .depth ≤ 8 ⌝ }
-    ensures { λ r. ⌜ (r ≤ m .depth) × Seen (marks .at) (λ xs. unwind xs (runOf m .opened) ≡ tops (m .boxes) r) ⌝ }
+    ensures { λ r. ⌜ (r ≤ m .depth) × Seen (marks .at) (λ xs. unwind xs (runOf m .boxes) ≡ tops (m .boxes) r) ⌝ }
 {
     let mut k = m.depth;
     while 0 < k {
@@ -687,7 +687,7 @@ fn leave_one(marks: Marks, h: Handed, p: usize) -> Handed
 // The marks that closing all boxes hands out.
 fn leave_all(marks: Marks, m: State) -> Handed
     requires { ⌜ m .depth ≤ 8 ⌝ }
-    ensures { λ r. ⌜ (r .count ≤ 8) × Seen (marks .at) (λ xs. handedOf r ≡ leaveOuts xs (runOf m .opened)) ⌝ }
+    ensures { λ r. ⌜ (r .count ≤ 8) × Seen (marks .at) (λ xs. handedOf r ≡ leaveOuts xs (runOf m .boxes)) ⌝ }
 {
     let mut h = Handed {
         things: no_things(),
@@ -756,7 +756,7 @@ fn reads_wrong(m: State, ws: Wants) -> bool
 // The innermost open box is the one at p.
 fn top_is(m: State, p: usize) -> bool
     requires { ⌜ m .depth ≤ 8 ⌝ }
-    ensures { λ r. ⌜ r ≡ inside p (runOf m .opened) ⌝ }
+    ensures { λ r. ⌜ r ≡ inside p (runOf m .boxes) ⌝ }
 {
     let d = m.depth;
     if d == 0 {
@@ -768,7 +768,7 @@ fn top_is(m: State, p: usize) -> bool
 // The mark at which the run stands does not belong to the innermost open box.
 fn strays_here(marks: Marks, m: State) -> bool
     requires { ⌜ m .depth ≤ 8 ⌝ }
-    ensures { λ r. ⌜ Seen (marks .at) (λ xs. r ≡ strays (itemAt xs (m .at)) (runOf m .opened) (boxesAt xs (m .at))) ⌝ }
+    ensures { λ r. ⌜ Seen (marks .at) (λ xs. r ≡ strays (itemAt xs (m .at)) (runOf m .boxes) (boxesAt xs (m .at))) ⌝ }
 {
     let d = m.depth;
     let at = m.at;
@@ -799,7 +799,7 @@ fn box_fault(marks: Marks, m: State, x: Item) -> bool
 // 63 of an opening mark.
 fn ninth_box(m: State, h: Head) -> bool
     requires { ⌜ m .depth ≤ 8 ⌝ }
-    ensures { λ r. ⌜ r ≡ (leb 8 (length (runOf m .opened)) && not (isLoop (sortOf h) && inside (m .at) (runOf m .opened))) ⌝ }
+    ensures { λ r. ⌜ r ≡ (leb 8 (length (runOf m .boxes)) && not (isLoop (sortOf h) && inside (m .at) (runOf m .boxes))) ⌝ }
 {
     let d = m.depth;
     let at = m.at;
@@ -815,7 +815,7 @@ fn ninth_box(m: State, h: Head) -> bool
 
 fn depth_fault(m: State, x: Item) -> bool
     requires { ⌜ m .depth ≤ 8 ⌝ }
-    ensures { λ r. ⌜ r ≡ (isOpen x && leb 8 (length (runOf m .opened)) && not (opensA isLoop x && inside (m .at) (runOf m .opened))) ⌝ }
+    ensures { λ r. ⌜ r ≡ (isOpen x && leb 8 (length (runOf m .boxes)) && not (opensA isLoop x && inside (m .at) (runOf m .boxes))) ⌝ }
 {
     match x {
         Item::Act(_) => false,
@@ -1000,7 +1000,7 @@ enum Meets {
 }
 
 fn asks_nothing(o: Offer) -> Meets
-    ensures { λ r. ⌜ meetsOf r ≡ rules.quiet o ⌝ }
+    ensures { λ r. ⌜ meetsOf r ≡ rules.asksNothing o ⌝ }
 {
     match o {
         Offer::Nothing => Meets::Ready,
@@ -1011,7 +1011,7 @@ fn asks_nothing(o: Offer) -> Meets
 }
 
 fn asks_float(o: Offer) -> Meets
-    ensures { λ r. ⌜ meetsOf r ≡ rules.asksOne o ⌝ }
+    ensures { λ r. ⌜ meetsOf r ≡ rules.asksFloat o ⌝ }
 {
     match o {
         Offer::Nothing => Meets::Short,
@@ -1075,8 +1075,8 @@ fn keep_result(m: State, n: usize, kind: u16, c: Calculated) -> Stepped
 {
     match c {
         Calculated::Value(v) => go_writing(m, n, Cell::Holds(v, kind)),
-        Calculated::ByZero => halt_by(m, Stop::ByZero),
-        Calculated::NotFinite => halt_by(m, Stop::NotFinite),
+        Calculated::ByZero => stop_by(m, Stop::ByZero),
+        Calculated::NotFinite => stop_by(m, Stop::NotFinite),
     }
 }
 
@@ -1103,9 +1103,9 @@ fn reading_of(o: Offer) -> Calculated
 
 fn run_calc(m: State, by: Operation, n: usize, x: Operand) -> Stepped
     requires { ⌜ m .at ≤ 128 ⌝ }
-    ensures { λ r. ⌜ meaning r ≡ kept (runOf m) n (slotType (slot (runOf m .vars) n)) (calculated by (valueOf (runOf m .vars) (name n)) (valueOf (runOf m .vars) x)) ⌝ }
+    ensures { λ r. ⌜ meaning r ≡ kept (runOf m) n (cellType (cellAt (runOf m .vars) n)) (calculated by (valueOf (runOf m .vars) (name n)) (valueOf (runOf m .vars) x)) ⌝ }
 {
-    let c = slot_of(m, n);
+    let c = cell_at(m, n);
     let kind = cell_type(c);
     keep_result(
         m,
@@ -1122,7 +1122,7 @@ fn run_act(m: State, a: Act, o: Offer) -> Stepped
     match a {
         Act::Var(_) => go_quietly(m),
         Act::Store(n, v, kind) => go_writing(m, n, Cell::Holds(v, kind)),
-        Act::Copy(from, to) => go_writing(m, to, slot_of(m, from)),
+        Act::Copy(from, to) => go_writing(m, to, cell_at(m, from)),
         Act::Calc(by, n, x) => run_calc(m, by, n, x),
         Act::Meas(_, n, kind) => keep_result(m, n, kind, reading_of(o)),
         Act::TimerGet(n) => keep_result(m, n, TYPE_EB, reading_of(o)),
@@ -1151,7 +1151,7 @@ fn run_pack(m: State, p: Pack) -> Stepped
     match p {
         Pack::Start => go_saying(with_packed(m, true), What::Start),
         Pack::Add(n) => {
-            let c = slot_of(m, n);
+            let c = cell_at(m, n);
             go_saying(m, What::Part(cell_value(c), cell_type(c)))
         }
         Pack::End => go_saying(with_packed(m, false), What::End),
@@ -1162,7 +1162,7 @@ fn run_pack(m: State, p: Pack) -> Stepped
 
 // The innermost box closed.
 fn pop_box(m: State) -> State
-    ensures { λ r. ⌜ runOf r ≡ goto (runOf m) (m .at) (outer (runOf m .opened)) ⌝ }
+    ensures { λ r. ⌜ runOf r ≡ goto (runOf m) (m .at) (outer (runOf m .boxes)) ⌝ }
 {
     let d = m.depth;
     if d == 0 {
@@ -1173,7 +1173,7 @@ fn pop_box(m: State) -> State
 
 // At item i; the skip is dropped where a measuring loop is left.
 fn leave_to(m: State, i: usize, sweep: bool) -> State
-    ensures { λ r. ⌜ runOf r ≡ unskip sweep (goto (runOf m) i (runOf m .opened)) ⌝ }
+    ensures { λ r. ⌜ runOf r ≡ unskip sweep (goto (runOf m) i (runOf m .boxes)) ⌝ }
 {
     drop_skip(go_to(m, i), sweep)
 }
@@ -1242,10 +1242,10 @@ fn run_point(m: State, w: Sweep, p: Point) -> Stepped
     ensures { λ r. ⌜ meaning r ≡ runPoint (runOf m) w (p .potential) (p .current) ⌝ }
 {
     if !value::is_finite(Value::Real(p.potential)) {
-        return halt_by(m, Stop::NotFinite);
+        return stop_by(m, Stop::NotFinite);
     }
     if !value::is_finite(Value::Real(p.current)) {
-        return halt_by(m, Stop::NotFinite);
+        return stop_by(m, Stop::NotFinite);
     }
     enter_loop(write_point(m, w, p), Sort::Sweep)
 }
@@ -1270,7 +1270,7 @@ fn run_chosen(m: State, c: Chosen) -> Stepped
     match c {
         Chosen::Into(i) => answered(go_to(push_box(m, at), i), Answer::Running),
         Chosen::Beyond(i) => answered(go_to(m, i), Answer::Running),
-        Chosen::Bad(f) => broke_by(m, f),
+        Chosen::Bad(f) => fault_by(m, f),
     }
 }
 
@@ -1289,11 +1289,11 @@ fn run_head(marks: Marks, m: State, h: Head, c: Chosen, o: Offer) -> Stepped
 
 fn run_branch(marks: Marks, m: State) -> Stepped
     requires { ⌜ Stands (runOf m) ⌝ }
-    ensures { λ r. ⌜ Seen (marks .at) (λ xs. meaning r ≡ runBranch xs (runOf m) (runOf m .opened)) ⌝ }
+    ensures { λ r. ⌜ Seen (marks .at) (λ xs. meaning r ≡ runBranch xs (runOf m) (runOf m .boxes)) ⌝ }
 {
     let d = m.depth;
     if d == 0 {
-        return broke_by(m, Fault::Box);
+        return fault_by(m, Fault::Box);
     }
     let p = m.boxes[d - 1];
     let to = close_of(marks, p);
@@ -1312,8 +1312,8 @@ fn leaves_sweep(marks: Marks, m: State, p: usize) -> bool
 }
 
 fn run_endloop(marks: Marks, m: State, p: usize) -> Stepped
-    requires { ⌜ Stands (runOf m) × (runOf m .opened ≡ p ∷ outer (runOf m .opened)) ⌝ }
-    ensures { λ r. ⌜ Seen (marks .at) (λ xs. meaning r ≡ runEndloop xs (runOf m) p (outer (runOf m .opened))) ⌝ }
+    requires { ⌜ Stands (runOf m) × (runOf m .boxes ≡ p ∷ outer (runOf m .boxes)) ⌝ }
+    ensures { λ r. ⌜ Seen (marks .at) (λ xs. meaning r ≡ runEndloop xs (runOf m) p (outer (runOf m .boxes))) ⌝ }
 {
     if leaves_sweep(marks, m, p) {
         let at = m.at;
@@ -1324,11 +1324,11 @@ fn run_endloop(marks: Marks, m: State, p: usize) -> Stepped
 
 fn run_close(marks: Marks, m: State, e: Close) -> Stepped
     requires { ⌜ Stands (runOf m) ⌝ }
-    ensures { λ r. ⌜ Seen (marks .at) (λ xs. meaning r ≡ runClose xs (runOf m) e (runOf m .opened)) ⌝ }
+    ensures { λ r. ⌜ Seen (marks .at) (λ xs. meaning r ≡ runClose xs (runOf m) e (runOf m .boxes)) ⌝ }
 {
     let d = m.depth;
     if d == 0 {
-        return broke_by(m, Fault::Box);
+        return fault_by(m, Fault::Box);
     }
     let p = m.boxes[d - 1];
     match e {
@@ -1348,11 +1348,11 @@ fn none_handed() -> Handed
 
 fn run_break(marks: Marks, m: State) -> Stepped
     requires { ⌜ Stands (runOf m) ⌝ }
-    ensures { λ r. ⌜ Seen (marks .at) (λ xs. meaning r ≡ runBreak xs (runOf m) (unwind xs (runOf m .opened))) ⌝ }
+    ensures { λ r. ⌜ Seen (marks .at) (λ xs. meaning r ≡ runBreak xs (runOf m) (unwind xs (runOf m .boxes))) ⌝ }
 {
     let k = loop_depth(marks, m);
     if k == 0 {
-        return broke_by(m, Fault::Box);
+        return fault_by(m, Fault::Box);
     }
     let p = m.boxes[k - 1];
     let to = close_of(marks, p);
@@ -1466,10 +1466,10 @@ fn run_end(before: State, m: State, o: Offer) -> Stepped
     let d = m.depth;
     let packed = m.packed;
     if d != 0 {
-        return broke_by(m, Fault::Box);
+        return fault_by(m, Fault::Box);
     }
     if packed {
-        return broke_by(m, Fault::Package);
+        return fault_by(m, Fault::Package);
     }
     finish_run(before, m, o, none_handed())
 }
@@ -1493,7 +1493,7 @@ fn try_item(marks: Marks, before: State, m: State, x: Item, c: Chosen, o: Offer)
     match c {
         Chosen::Into(_) => serve_item(marks, before, m, x, c, o),
         Chosen::Beyond(_) => serve_item(marks, before, m, x, c, o),
-        Chosen::Bad(f) => broke_by(m, f),
+        Chosen::Bad(f) => fault_by(m, f),
     }
 }
 
@@ -1507,14 +1507,14 @@ fn step_item(script: Script, marks: Marks, before: State, m: State, o: Offer) ->
     let x = s.item;
     let t = faults_of(marks, m, x);
     match t {
-        Trouble::Fault(f) => broke_by(m, f),
+        Trouble::Fault(f) => fault_by(m, f),
         Trouble::None => try_item(marks, before, m, x, chosen_at(script, marks, m, x), o),
     }
 }
 
 fn finish_cleared(marks: Marks, before: State, m: State, o: Offer) -> Stepped
     requires { ⌜ Stands (runOf m) ⌝ }
-    ensures { λ r. ⌜ Seen (marks .at) (λ xs. meaning r ≡ finish (runOf before) (cleared (runOf m) (m .at)) o (leaveOuts xs (runOf m .opened))) ⌝ }
+    ensures { λ r. ⌜ Seen (marks .at) (λ xs. meaning r ≡ finish (runOf before) (cleared (runOf m) (m .at)) o (leaveOuts xs (runOf m .boxes))) ⌝ }
 {
     let at = m.at;
     let h = leave_all(marks, m);
@@ -1523,7 +1523,7 @@ fn finish_cleared(marks: Marks, before: State, m: State, o: Offer) -> Stepped
 
 fn go_to_tag(marks: Marks, before: State, m: State, o: Offer, i: usize) -> Stepped
     requires { ⌜ Stands (runOf m) × (i ≤ 128) ⌝ }
-    ensures { λ r. ⌜ Seen (marks .at) (λ xs. meaning r ≡ served (runOf before) (cleared (runOf m) i) (quiet o) (said (leaveOuts xs (runOf m .opened)) (next (cleared (runOf m) i)))) ⌝ }
+    ensures { λ r. ⌜ Seen (marks .at) (λ xs. meaning r ≡ served (runOf before) (cleared (runOf m) i) (asksNothing o) (said (leaveOuts xs (runOf m .boxes)) (next (cleared (runOf m) i)))) ⌝ }
 {
     let q = asks_nothing(o);
     match q {
@@ -1579,7 +1579,7 @@ fn step_moved(
     o: Offer,
     sweeping: bool,
 ) -> Stepped
-    requires { ⌜ Stands (runOf m) × (script .count ≤ 128) × Marked (itemsOf script) (marks .at) × (sweeping ≡ anyOpen isSweep (itemsOf script) (runOf m .opened)) ⌝ }
+    requires { ⌜ Stands (runOf m) × (script .count ≤ 128) × Marked (itemsOf script) (marks .at) × (sweeping ≡ anyOpen isSweep (itemsOf script) (runOf m .boxes)) ⌝ }
     ensures { λ r. ⌜ meaning r ≡ moved (itemsOf script) (runOf before) (runOf m) o ⌝ }
 {
     let at = m.at;
@@ -1620,7 +1620,7 @@ fn step_shaped(script: Script, marks: Marks, m: State, c: Control, o: Offer) -> 
 // ---- the state's shape
 
 fn cell_ok(c: Cell) -> bool
-    ensures { λ r. ⌜ r ≡ slotOk c ⌝ }
+    ensures { λ r. ⌜ r ≡ cellOk c ⌝ }
 {
     match c {
         Cell::Unwritten => true,
@@ -1628,13 +1628,13 @@ fn cell_ok(c: Cell) -> bool
     }
 }
 
-fn slots_ok(m: State) -> bool
-    ensures { λ r. ⌜ r ≡ slotsOk (runOf m .vars) ⌝ }
+fn cells_ok(m: State) -> bool
+    ensures { λ r. ⌜ r ≡ cellsOk (runOf m .vars) ⌝ }
 {
     let mut i = 0;
     while i < NAMES {
         let v = m.vars[i];
-        let c = v.slot;
+        let c = v.cell;
         if !cell_ok(c) {
             return false;
         }
@@ -1658,7 +1658,7 @@ fn box_ok(marks: Marks, n: usize, p: usize) -> bool
 
 fn opens_ok(marks: Marks, n: usize, m: State) -> bool
     requires { ⌜ m .depth ≤ 8 ⌝ }
-    ensures { λ r. ⌜ Seen (marks .at) (λ xs. length xs ≡ n → r ≡ opensOk xs (runOf m .opened)) ⌝ }
+    ensures { λ r. ⌜ Seen (marks .at) (λ xs. length xs ≡ n → r ≡ opensOk xs (runOf m .boxes)) ⌝ }
 {
     let mut k = m.depth;
     while 0 < k {
@@ -1686,7 +1686,7 @@ fn state_ok(marks: Marks, n: usize, m: State) -> bool
     if !opens_ok(marks, n, m) {
         return false;
     }
-    slots_ok(m)
+    cells_ok(m)
 }
 
 // ---- what is left over

@@ -177,8 +177,8 @@ fn status_of(n: AnswerNumbers) -> Status {
 }
 
 fn var_numbers(var: Var) -> VarNumbers {
-    let slot = var.slot;
-    match slot {
+    let cell = var.cell;
+    match cell {
         Cell::Unwritten => VarNumbers {
             written: false,
             kind: 0,
@@ -199,11 +199,11 @@ fn var_of(n: VarNumbers) -> Var {
     let v = n.value;
     if n.written {
         Var {
-            slot: Cell::Holds(value_of(v), n.kind),
+            cell: Cell::Holds(value_of(v), n.kind),
         }
     } else {
         Var {
-            slot: Cell::Unwritten,
+            cell: Cell::Unwritten,
         }
     }
 }
@@ -236,7 +236,7 @@ fn state_numbers(state: State) -> StateNumbers {
 
 pub fn state_of(n: StateNumbers) -> State {
     let mut vars = [Var {
-        slot: Cell::Unwritten,
+        cell: Cell::Unwritten,
     }; 32];
     let mut i: usize = 0;
     while i < NAMES {

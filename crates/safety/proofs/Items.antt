@@ -40,15 +40,15 @@ use Rattle.rules.specs.Check.{put}
 use Rattle.machine.specs.declared.Cell.{Cell}
 use Rattle.machine.specs.declared.Cell.the-variants.{Holds as held}
 use Rattle.machine.specs.declared.Offer.{Offer}
-use Rattle.machine.specs.declared.Offer.the-variants.{Nothing as no-offer, Float as one, Point as point, Done as done}
-use Rattle.machine.specs.Machine.{Vars, slot, isSet, slotKind, slotValue, slotType, valueOf, holds, da, ba, eb, zero28, over10, Run, leaves, Answer, running, waiting, finished, stopped, fault, refuse, Step, goto, keep, unskip, unwind, outside, said, halt, next, kept, reading, runAct, runPack, Chosen, chosen, enter, leave, runPoint, runHead, runBranch, runClose, runBreak, run, slotOk}
+use Rattle.machine.specs.declared.Offer.the-variants.{Nothing as nothing, Float as oneFloat, Point as onePoint, Done as done}
+use Rattle.machine.specs.Machine.{Vars, cellAt, isWritten, cellKind, cellValue, cellType, valueOf, holds, da, ba, eb, code0028, code0010, Run, leaves, Answer, running, waiting, finished, stopped, fault, refuse, Step, goto, keep, unskip, unwind, outside, said, stopsBy, next, kept, reading, runAct, runPack, Chosen, chosen, enter, leave, runPoint, runHead, runBranch, runClose, runBreak, run, cellOk}
 use Rattle.safety.specs.Safety.{isCode}
 use Rattle.safety.proofs.Laws.{no, or-l, or-r, and-l, and-r, not-f, not-t, both-r, not-nothing}
 use Rattle.safety.proofs.Walk.{textKinds, Accepted, more, closes-fits, branch-fits, clean, item-ok, gives-ok, like-below, float-below}
 use Rattle.safety.proofs.Boxes.{erase, Headed}
 use Rattle.safety.proofs.Static.{static}
 use Rattle.safety.proofs.Mates.{Under, here, there, left-sure, left-loop, Picks, goes, passes, find-close, past-close, branchedBox, close-head}
-use Rattle.safety.proofs.Names.{Covers, AllCover, VarsOk, set-vars, written-up, all-cover-up, cover-set, slot-kind, kind-now}
+use Rattle.safety.proofs.Names.{Covers, AllCover, VarsOk, set-vars, written-up, all-cover-up, cover-set, cell-kind, kind-now}
 use Rattle.safety.proofs.Stands.{positions, Here, Good, shape-of, land, not-again, outside-is, knows}
 use Rattle.safety.proofs.NoFault.{innermost-loop, tried-mates, mates-good}
 use Rattle.safety.proofs.Results.{checked-got, result-got}
@@ -71,14 +71,14 @@ module _ {names size : ℕ} {items : List Item} (ok : Accepted names size items)
   FineStep s = Fine (s .answer) (s .next)
 
   module _ {m : Run} {su : Names} {l : List Box} {p tg : Bool} {k : Kinds} where
-    stops : {xs : List Item} → Here ok m su l p tg k xs → (c : ℕ) → isCode c ≡ true → FineStep (halt c m)
+    stops : {xs : List Item} → Here ok m su l p tg k xs → (c : ℕ) → isCode c ≡ true → FineStep (stopsBy c m)
     stops h c e = (e, record { shape = shape-of ok h; life = e })
 
     -- ---- items that open no box
 
     module _ (a : Act) {xs : List Item} (h : Here ok m su l p tg k (act a ∷ xs)) where
       wrote : (v : ℕ) (w : Cell) → put su (actGives a) ≡ set su v true → v < 32
-          → isSet w ≡ true → slotOk w ≡ true → differ (kindAt (textKinds items) v) (slotKind w) ≡ false → Good ok (next (keep m (set (m .vars) v w)))
+          → isWritten w ≡ true → cellOk w ≡ true → differ (kindAt (textKinds items) v) (cellKind w) ≡ false → Good ok (next (keep m (set (m .vars) v w)))
       wrote v w q u e f d =
           land ok (more (h .reach)) (inl (not-again ok h refl)) (h .packed)
           (rw q (cover-set (m .vars) v w su (h .vars .len) u e (h .cover))) (all-cover-up (m .vars) v w l e (h .covers)) (set-vars (m .vars) v w (h .vars) f d) (h .living)
@@ -86,8 +86,8 @@ module _ {names size : ℕ} {items : List Item} (ok : Accepted names size items)
       kept-fine : (v c : ℕ) (g : Calculated) → put su (actGives a) ≡ set su v true → v < 32
           → ((u : Value) → g ≡ got u → (finite u ≡ true) × (differ (kindAt (textKinds items) v) (known (kindOf u)) ≡ false)) → FineStep (kept m v c g)
       kept-fine v c (got u) q b f = wrote v (held u c) q b refl ((f u refl) .0) ((f u refl) .1)
-      kept-fine v c byZero q b f = stops h zero28 refl
-      kept-fine v c notFinite q b f = stops h over10 refl
+      kept-fine v c byZero q b f = stops h code0028 refl
+      kept-fine v c notFinite q b f = stops h code0010 refl
 
       float-fine : (v c : ℕ) (x : Float) → put su (actGives a) ≡ set su v true → v < 32
           → differ (kindAt (textKinds items) v) (known realKind) ≡ false → FineStep (kept m v c (checked x))
@@ -106,12 +106,12 @@ module _ {names size : ℕ} {items : List Item} (ok : Accepted names size items)
         wrote (store v x c) h v (held x c) refl (like-below ok v (literal x) g) refl (and-r (ltb v names) (finite x) g) ((clean ok (h .reach)) .gifts)
     act-fine (copy a b) o h =
         let s : has su a ≡ true = not-f (has su a) ((clean ok (h .reach)) .there) in
-        wrote (copy a b) h b (slot (m .vars) a) refl (like-below ok b (name a) (written-ok (copy a b) h)) (h .cover a s) (h .vars .fine a)
+        wrote (copy a b) h b (cellAt (m .vars) a) refl (like-below ok b (name a) (written-ok (copy a b) h)) (h .cover a s) (h .vars .fine a)
         (rw (kind-now (knows ok h) a s) ((clean ok (h .reach)) .gifts))
     act-fine (calc f v x) o h =
         let s : has su v ≡ true = not-f (has su v) (or-l (not (has su v)) (gone (has su) x) ((clean ok (h .reach)) .there)) in
-        kept-fine (calc f v x) h v (slotType (slot (m .vars) v)) (calculated f (slotValue (slot (m .vars) v)) (valueOf (m .vars) x)) refl (like-below ok v (name v) (written-ok (calc f v x) h))
-        (λ u e. let r = result-got f (slotValue (slot (m .vars) v)) (valueOf (m .vars) x) u e in (r .0, rw (r .1, ← (slot-kind (slot (m .vars) v) (h .cover v s))) (h .vars .agree v)))
+        kept-fine (calc f v x) h v (cellType (cellAt (m .vars) v)) (calculated f (cellValue (cellAt (m .vars) v)) (valueOf (m .vars) x)) refl (like-below ok v (name v) (written-ok (calc f v x) h))
+        (λ u e. let r = result-got f (cellValue (cellAt (m .vars) v)) (valueOf (m .vars) x) u e in (r .0, rw (r .1, ← (cell-kind (cellAt (m .vars) v) (h .cover v s))) (h .vars .agree v)))
     act-fine (meas f v c) o h = float-fine (meas f v c) h v c (reading o) refl (float-below ok v [] (written-ok (meas f v c) h)) ((clean ok (h .reach)) .gifts)
     act-fine (timerGet v) o h = float-fine (timerGet v) h v eb (reading o) refl (float-below ok v [] (written-ok (timerGet v) h)) ((clean ok (h .reach)) .gifts)
     act-fine (sendString s) o h = stays (sendString s) h refl
@@ -135,7 +135,7 @@ module _ {names size : ℕ} {items : List Item} (ok : Accepted names size items)
 
     -- a box is entered, with the names vs
     entered-fine : (d : Head) {xs : List Item} → Here ok m su l p tg k (opens d ∷ xs) → (vs : Vars) → VarsOk (textKinds items) vs → Covers (put su (headGives d)) vs → Covers su vs → AllCover l vs
-        → (ps : List ℕ) → ps ≡ positions l → Good ok (goto (keep m vs) (suc (m .pc)) (m .pc ∷ ps))
+        → (ps : List ℕ) → ps ≡ positions l → Good ok (goto (keep m vs) (suc (m .at)) (m .at ∷ ps))
     entered-fine d h vs v c e a ps q = land ok (more (h .reach)) (inl (rw q)) (h .packed) c (e, a) v (h .living)
 
     leave-fine : (d : Head) {xs : List Item} (o : Sort) → Here ok m su l p tg k (opens d ∷ xs) → isLoop (sortOf d) ≡ true → FineStep (leave items o m)
@@ -143,7 +143,7 @@ module _ {names size : ℕ} {items : List Item} (ok : Accepted names size items)
         let f = past-close ok (close-head ok (h .reach)) in
         land ok (f .reach) (inl (outside-is ok h)) (h .packed ∙ (clean ok (h .reach)) .packed) (λ n e. h .cover n (f .loops q n e)) (h .covers) (h .vars) (h .living)
 
-    picks-fine : {c : Condition} {xs : List Item} → Here ok m su l p tg k (opens (if' c) ∷ xs) → {d : Chosen} → Picks items (m .pc) su l d → FineStep (chosen m d)
+    picks-fine : {c : Condition} {xs : List Item} → Here ok m su l p tg k (opens (if' c) ∷ xs) → {d : Chosen} → Picks items (m .at) su l d → FineStep (chosen m d)
     picks-fine h (goes r e f) =
         land ok r (inl (rw (e, not-again ok h refl))) (h .packed ∙ (clean ok (h .reach)) .packed) (h .cover) (rw f (h .cover), h .covers) (h .vars) (h .living)
     picks-fine h (passes r e) =
@@ -152,15 +152,15 @@ module _ {names size : ℕ} {items : List Item} (ok : Accepted names size items)
     if-fine : (c : Condition) {xs : List Item} (o : Offer) → Here ok m su l p tg k (opens (if' c) ∷ xs) → FineStep (runHead items m (if' c) o)
     if-fine c o h = go (holds (m .vars) c)
       where
-        go : (b : Bool) → FineStep (cond b (said [] (goto m (suc (m .pc)) (m .pc ∷ m .opened))) (chosen m (tried-mates ok h)))
-        go true = entered-fine (if' c) h (m .vars) (h .vars) (h .cover) (h .cover) (h .covers) (m .opened) (not-again ok h refl)
+        go : (b : Bool) → FineStep (cond b (said [] (goto m (suc (m .at)) (m .at ∷ m .boxes))) (chosen m (tried-mates ok h)))
+        go true = entered-fine (if' c) h (m .vars) (h .vars) (h .cover) (h .cover) (h .covers) (m .boxes) (not-again ok h refl)
         go false = picks-fine h (mates-good ok h)
 
     loop-fine : (c : Condition) {xs : List Item} (o : Offer) → Here ok m su l p tg k (opens (loop c) ∷ xs) → FineStep (runHead items m (loop c) o)
     loop-fine c o h = go (holds (m .vars) c)
       where
         go : (b : Bool) → FineStep (cond b (enter loopBox m) (leave items loopBox m))
-        go true = entered-fine (loop c) h (m .vars) (h .vars) (h .cover) (h .cover) (h .covers) (outside (m .pc) (m .opened)) (outside-is ok h)
+        go true = entered-fine (loop c) h (m .vars) (h .vars) (h .cover) (h .cover) (h .covers) (outside (m .at) (m .boxes)) (outside-is ok h)
         go false = leave-fine (loop c) loopBox h refl
 
     point-fine : (w : Sweep) {xs : List Item} (x y : Float) → Here ok m su l p tg k (opens (sweep w) ∷ xs) → FineStep (runPoint m w x y)
@@ -196,26 +196,26 @@ module _ {names size : ℕ} {items : List Item} (ok : Accepted names size items)
         d₂ : differ (kindAt (textKinds items) (w .current)) (known realKind) ≡ false
         d₂ = or-l _ _ d
 
-        go : (a b : Bool) → finite (real x) ≡ a → finite (real y) ≡ b → FineStep (cond (a && b) (enter sweepBox (keep m v₂)) (halt over10 m))
+        go : (a b : Bool) → finite (real x) ≡ a → finite (real y) ≡ b → FineStep (cond (a && b) (enter sweepBox (keep m v₂)) (stopsBy code0010 m))
         go true true e f =
             let s₁ = set-vars (m .vars) (w .potential) w₁ (h .vars) e d₁ in
             entered-fine (sweep w) h v₂ (set-vars v₁ (w .current) w₂ s₁ f d₂)
             (cover-set v₁ (w .current) w₂ (set su (w .potential) true) (s₁ .len) b₂ refl (cover-set (m .vars) (w .potential) w₁ su (h .vars .len) b₁ refl (h .cover)))
             (λ n q. written-up v₁ (w .current) w₂ n refl (written-up (m .vars) (w .potential) w₁ n refl (h .cover n q)))
             (all-cover-up v₁ (w .current) w₂ l refl (all-cover-up (m .vars) (w .potential) w₁ l refl (h .covers)))
-            (outside (m .pc) (m .opened)) (outside-is ok h)
-        go true false e f = stops h over10 refl
-        go false b e f = stops h over10 refl
+            (outside (m .at) (m .boxes)) (outside-is ok h)
+        go true false e f = stops h code0010 refl
+        go false b e f = stops h code0010 refl
 
     head-fine : (d : Head) {xs : List Item} (o : Offer) → Here ok m su l p tg k (opens d ∷ xs) → FineStep (runHead items m d o)
     head-fine (if' c) o h = if-fine c o h
     head-fine (loop c) o h = loop-fine c o h
-    head-fine (sweep w) no-offer h = leave-fine (sweep w) sweepBox h refl
-    head-fine (sweep w) (one x) h = leave-fine (sweep w) sweepBox h refl
-    head-fine (sweep w) (point q) h = point-fine w (q .potential) (q .current) h
+    head-fine (sweep w) nothing h = leave-fine (sweep w) sweepBox h refl
+    head-fine (sweep w) (oneFloat x) h = leave-fine (sweep w) sweepBox h refl
+    head-fine (sweep w) (onePoint q) h = point-fine w (q .potential) (q .current) h
     head-fine (sweep w) done h = leave-fine (sweep w) sweepBox h refl
 
-    break-fine : {xs : List Item} → Here ok m su l p tg k (breakloop ∷ xs) → FineStep (runBreak items m (unwind items (m .opened)))
+    break-fine : {xs : List Item} → Here ok m su l p tg k (breakloop ∷ xs) → FineStep (runBreak items m (unwind items (m .boxes)))
     break-fine {xs} h =
         let r = innermost-loop ok h in
         let f = past-close ok (find-close ok (breakloop ∷ xs) (h .reach) (r .under)) in
@@ -226,7 +226,7 @@ module _ {names size : ℕ} {items : List Item} (ok : Accepted names size items)
   -- ---- branch and closing marks
 
   module _ {m : Run} {su : Names} {p tg : Bool} {k : Kinds} where
-    branch-fine : (c : Branch) (l : List Box) {xs : List Item} → Here ok m su l p tg k (branch c ∷ xs) → FineStep (runBranch items m (m .opened))
+    branch-fine : (c : Branch) (l : List Box) {xs : List Item} → Here ok m su l p tg k (branch c ∷ xs) → FineStep (runBranch items m (m .boxes))
     branch-fine c [] h = no ((clean ok (h .reach)) .placed)
     branch-fine c (b ∷ bs) {xs} h =
         let f = past-close ok (find-close ok xs {b = branchedBox c b su} (more (h .reach)) here) in
@@ -235,7 +235,7 @@ module _ {names size : ℕ} {items : List Item} (ok : Accepted names size items)
         (λ n e. h .cover n (both-r (b .meet) su n (f .meets (not-t (isLoop (b .sort)) (branch-fits c b bs ((clean ok (h .reach)) .placed))) n e)))
         (h .covers .1) (h .vars) (h .living))
 
-    close-fine : (e : Close) (l : List Box) {xs : List Item} → Here ok m su l p tg k (closes e ∷ xs) → FineStep (runClose items m e (m .opened))
+    close-fine : (e : Close) (l : List Box) {xs : List Item} → Here ok m su l p tg k (closes e ∷ xs) → FineStep (runClose items m e (m .boxes))
     close-fine e [] h = no ((clean ok (h .reach)) .placed)
     close-fine endif (b ∷ bs) h =
         rw (not-again ok h refl)
@@ -248,10 +248,10 @@ module _ {names size : ℕ} {items : List Item} (ok : Accepted names size items)
         loops : isLoop (b .sort) ≡ true
         loops = closes-fits endloop b bs ((clean ok (h .reach)) .placed)
 
-        g : Headed items (m .pc) (erase (b ∷ bs)) (closes endloop ∷ xs) tg b bs
+        g : Headed items (m .at) (erase (b ∷ bs)) (closes endloop ∷ xs) tg b bs
         g = (static ok (h .reach)) .heads .0
 
-        go : (c : Bool) → FineStep (cond c (said (leaves sweepBox ∷ []) (unskip true (goto m (suc (m .pc)) (positions bs)))) (said [] (goto m (b .at) (b .at ∷ positions bs))))
+        go : (c : Bool) → FineStep (cond c (said (leaves sweepBox ∷ []) (unskip true (goto m (suc (m .at)) (positions bs)))) (said [] (goto m (b .at) (b .at ∷ positions bs))))
         go true =
             land ok (more (h .reach)) (inl refl) (h .packed) (λ n e. h .covers .0 n (left-loop (b .sort) b su loops n e)) (h .covers .1) (h .vars) (h .living)
         go false =

@@ -7,7 +7,7 @@ use mathlib.Core.List.{List, []}
 use Rattle.table.specs.declared.Item.{Item}
 use Rattle.machine.specs.declared.Control.{Control}
 use Rattle.machine.specs.declared.Offer.{Offer}
-use Rattle.machine.specs.Machine.{Status, live, ended, halted, broken, Run, Answer, running, waiting, finished, stopped, fault, refuse, Step, fresh, Meets, ready, short, amiss, served, told, moved, again}
+use Rattle.machine.specs.Machine.{Status, live, finishedRun, stoppedRun, faultRun, Run, Answer, running, waiting, finished, stopped, fault, refuse, Step, fresh, Meets, ready, short, amiss, served, told, moved, again}
 use Rattle.safety.specs.Safety.{wrongSort, allowed, unbroken, Promise}
 use Rattle.safety.proofs.Laws.{no′, not-nothing}
 use Rattle.safety.proofs.Walk.{textKinds, Accepted, outset}
@@ -26,9 +26,9 @@ refuses (refuse n) = true
 
 abbrev lives : Status → Bool
 lives live = true
-lives ended = false
-lives (halted n) = false
-lives (broken n) = false
+lives finishedRun = false
+lives (stoppedRun n) = false
+lives (faultRun n) = false
 
 module _ {names size : ℕ} {items : List Item} (ok : Accepted names size items) where
   good-unbroken : {m : Run} → Good ok m → unbroken (m .status) ≡ true
@@ -36,9 +36,9 @@ module _ {names size : ℕ} {items : List Item} (ok : Accepted names size items)
     where
       go : (a : Status) → Life ok a m → unbroken a ≡ true
       go live i = refl
-      go ended i = refl
-      go (halted c) i = i
-      go (broken n) i = absurd i
+      go finishedRun i = refl
+      go (stoppedRun c) i = i
+      go (faultRun n) i = absurd i
 
   module _ (m : Run) (c : Control) (o : Offer) where
     -- the promise, and a run that the next step can start from
@@ -77,9 +77,9 @@ module _ {names size : ℕ} {items : List Item} (ok : Accepted names size items)
       where
         go : (a : Status) → m .status ≡ a → Life ok a m → Kept (again a m (moved items m (told items m c) o))
         go live e i = comes-kept e g (moved-comes ok m o (told-here ok c (i .stands)))
-        go ended e i = over-kept finished refl refl (rw e) g
-        go (halted d) e i = over-kept (stopped d) i refl (rw e) g
-        go (broken n) e i = absurd i
+        go finishedRun e i = over-kept finished refl refl (rw e) g
+        go (stoppedRun d) e i = over-kept (stopped d) i refl (rw e) g
+        go (faultRun n) e i = absurd i
 
   pub fresh-good : Good ok fresh
   fresh-good = land ok outset (inl refl) refl (λ n e. not-nothing n e) tt (fresh-vars (textKinds items)) refl

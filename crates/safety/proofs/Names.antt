@@ -18,8 +18,8 @@ use Rattle.table.specs.declared.Want.the-variants.{Any as any, Alike as alike, 
 use Rattle.table.specs.Uses.{kindOf, alikeKind, differ, Kinds, kindAt, kindIn, wrong, Names, has, gone, missing}
 use Rattle.rules.specs.declared.OpenBox.{OpenBox as Box}
 use Rattle.machine.specs.declared.Cell.{Cell}
-use Rattle.machine.specs.declared.Cell.the-variants.{Unwritten as unset, Holds as held}
-use Rattle.machine.specs.Machine.{Vars, slot, isSet, slotKind, slotValue, written, kindNow, slotOk, slotsOk}
+use Rattle.machine.specs.declared.Cell.the-variants.{Unwritten as unwritten, Holds as held}
+use Rattle.machine.specs.Machine.{Vars, cellAt, isWritten, cellKind, cellValue, written, kindNow, cellOk, cellsOk}
 use Rattle.safety.proofs.Laws.{no′, or-l, or-r, or-f, not-f, AfterSet, getD-set, getD-rep}
 use Rattle.safety.proofs.Sure.{isKnown, Within}
 
@@ -36,59 +36,59 @@ AllCover (b ∷ bs) vs = Covers (b .before) vs × AllCover bs vs
 pub record VarsOk (k : Kinds) (vs : Vars) : Type 0 where
   pub len : length vs ≡ 32
   pub agree : (n : ℕ) → differ (kindAt k n) (kindNow vs n) ≡ false
-  pub fine : (n : ℕ) → slotOk (slot vs n) ≡ true
+  pub fine : (n : ℕ) → cellOk (cellAt vs n) ≡ true
 
-pub fresh-vars : (k : Kinds) → VarsOk k (replicate 32 unset)
+pub fresh-vars : (k : Kinds) → VarsOk k (replicate 32 unwritten)
 fresh-vars k = record { len = refl; agree = agrees; fine = fines }
   where
     none-differs : (j : Known) → differ j unknown ≡ false
     none-differs unknown = refl
     none-differs (known j) = refl
 
-    agrees : (n : ℕ) → differ (kindAt k n) (kindNow (replicate 32 unset) n) ≡ false
-    agrees n = rw (getD-rep 32 n unset) (none-differs (kindAt k n))
+    agrees : (n : ℕ) → differ (kindAt k n) (kindNow (replicate 32 unwritten) n) ≡ false
+    agrees n = rw (getD-rep 32 n unwritten) (none-differs (kindAt k n))
 
-    fines : (n : ℕ) → slotOk (slot (replicate 32 unset) n) ≡ true
-    fines n = rw (getD-rep 32 n unset)
+    fines : (n : ℕ) → cellOk (cellAt (replicate 32 unwritten) n) ≡ true
+    fines n = rw (getD-rep 32 n unwritten)
 
-pub slots-ok : (vs : Vars) → ((n : ℕ) → slotOk (slot vs n) ≡ true) → slotsOk vs ≡ true
-slots-ok [] f = refl
-slots-ok (v ∷ vs) f = rw (f 0) (slots-ok vs (λ n. f (suc n)))
+pub cells-ok : (vs : Vars) → ((n : ℕ) → cellOk (cellAt vs n) ≡ true) → cellsOk vs ≡ true
+cells-ok [] f = refl
+cells-ok (v ∷ vs) f = rw (f 0) (cells-ok vs (λ n. f (suc n)))
 
 -- ---- writing a name
 
 module _ (vs : Vars) (v : ℕ) (w : Cell) where
-  pub set-vars : {k : Kinds} → VarsOk k vs → slotOk w ≡ true → differ (kindAt k v) (slotKind w) ≡ false → VarsOk k (set vs v w)
+  pub set-vars : {k : Kinds} → VarsOk k vs → cellOk w ≡ true → differ (kindAt k v) (cellKind w) ≡ false → VarsOk k (set vs v w)
   set-vars {k} o f d = record {
     len = length-set vs v w ∙ o .len;
-    agree = λ n. agrees n (getD-set vs v w n unset);
-    fine = λ n. fines n (getD-set vs v w n unset);
+    agree = λ n. agrees n (getD-set vs v w n unwritten);
+    fine = λ n. fines n (getD-set vs v w n unwritten);
   }
     where
-      agrees : (n : ℕ) → AfterSet vs v w n unset → differ (kindAt k n) (kindNow (set vs v w) n) ≡ false
+      agrees : (n : ℕ) → AfterSet vs v w n unwritten → differ (kindAt k n) (kindNow (set vs v w) n) ≡ false
       agrees n (inl q) = rw (q .1, q .0) d
       agrees n (inr q) = rw q (o .agree n)
 
-      fines : (n : ℕ) → AfterSet vs v w n unset → slotOk (slot (set vs v w) n) ≡ true
+      fines : (n : ℕ) → AfterSet vs v w n unwritten → cellOk (cellAt (set vs v w) n) ≡ true
       fines n (inl q) = rw (q .1) f
       fines n (inr q) = rw q (o .fine n)
 
-  pub written-up : (n : ℕ) → isSet w ≡ true → written vs n ≡ true → written (set vs v w) n ≡ true
-  written-up n e h = go (getD-set vs v w n unset)
+  pub written-up : (n : ℕ) → isWritten w ≡ true → written vs n ≡ true → written (set vs v w) n ≡ true
+  written-up n e h = go (getD-set vs v w n unwritten)
     where
-      go : AfterSet vs v w n unset → written (set vs v w) n ≡ true
+      go : AfterSet vs v w n unwritten → written (set vs v w) n ≡ true
       go (inl q) = rw (q .1) e
       go (inr q) = rw q h
 
-  pub all-cover-up : (l : List Box) → isSet w ≡ true → AllCover l vs → AllCover l (set vs v w)
+  pub all-cover-up : (l : List Box) → isWritten w ≡ true → AllCover l vs → AllCover l (set vs v w)
   all-cover-up [] e h = tt
   all-cover-up (b ∷ bs) e h = (λ n q. written-up n e (h .0 n q), all-cover-up bs e (h .1))
 
-  pub cover-set : (su : Names) → length vs ≡ 32 → v < 32 → isSet w ≡ true → Covers su vs → Covers (set su v true) (set vs v w)
+  pub cover-set : (su : Names) → length vs ≡ 32 → v < 32 → isWritten w ≡ true → Covers su vs → Covers (set su v true) (set vs v w)
   cover-set su l u e c n h = go (getD-set su v true n false)
     where
       go : AfterSet su v true n false → written (set vs v w) n ≡ true
-      go (inl q) = rw (q .0, getD-set-same vs v w unset (omega arith)) e
+      go (inl q) = rw (q .0, getD-set-same vs v w unwritten (omega arith)) e
       go (inr q) = written-up n e (c n (sym q ∙ h))
 
 -- ---- reading a name: what the checker knows of it is so
@@ -104,13 +104,13 @@ same-kind unknown b p q h = no′ p
 same-kind (known j) unknown p q h = no′ q
 same-kind (known j) (known k) p q h = ap known (sym (alike-eq j k (not-f (alikeKind j k) h)))
 
-known-slot : (w : Cell) → isSet w ≡ true → isKnown (slotKind w) ≡ true
-known-slot unset h = h
-known-slot (held v t) h = refl
+known-cell : (w : Cell) → isWritten w ≡ true → isKnown (cellKind w) ≡ true
+known-cell unwritten h = h
+known-cell (held v t) h = refl
 
-pub slot-kind : (w : Cell) → isSet w ≡ true → slotKind w ≡ known (kindOf (slotValue w))
-slot-kind unset h = no′ h
-slot-kind (held v t) h = refl
+pub cell-kind : (w : Cell) → isWritten w ≡ true → cellKind w ≡ known (kindOf (cellValue w))
+cell-kind unwritten h = no′ h
+cell-kind (held v t) h = refl
 
 -- what the checker knows of the names holds of the run: those of su are written and have a kind
 pub record Knows (k : Kinds) (su : Names) (vs : Vars) : Type 0 where
@@ -120,7 +120,7 @@ pub record Knows (k : Kinds) (su : Names) (vs : Vars) : Type 0 where
 
 module _ {k : Kinds} {su : Names} {vs : Vars} (a : Knows k su vs) where
   pub kind-now : (n : ℕ) → has su n ≡ true → kindNow vs n ≡ kindAt k n
-  kind-now n h = same-kind (kindAt k n) (kindNow vs n) (a .kinds n h) (known-slot (slot vs n) (a .cover n h)) (a .vars .agree n)
+  kind-now n h = same-kind (kindAt k n) (kindNow vs n) (a .kinds n h) (known-cell (cellAt vs n) (a .cover n h)) (a .vars .agree n)
 
   here-now : (x : Operand) → gone (has su) x ≡ false → gone (written vs) x ≡ false
   here-now (name n) h = rw (a .cover n (not-f (has su n) h))

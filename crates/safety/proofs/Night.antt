@@ -13,10 +13,10 @@ use Rattle.table.specs.declared.Sort.the-variants.{Loop as loopBox, Sweep as sw
 use Rattle.script.specs.Load.{loaded}
 use Rattle.rules.specs.Check.{accepted, verdict}
 use Rattle.machine.specs.declared.Control.{Control}
-use Rattle.machine.specs.declared.Control.the-variants.{None as calm, Z, Y}
+use Rattle.machine.specs.declared.Control.the-variants.{None as noControl, Z, Y}
 use Rattle.machine.specs.declared.Offer.{Offer}
-use Rattle.machine.specs.declared.Offer.the-variants.{Nothing as no-offer, Float as one, Point as point, Done as done}
-use Rattle.machine.specs.Machine.{da, ba, over10, Run, Out, enters, leaves, packStart, packEnd, packPart, says, waits, setsE, setsMode, cell, Answer, running, waiting, finished, stopped, refuse, fresh, step}
+use Rattle.machine.specs.declared.Offer.the-variants.{Nothing as nothing, Float as oneFloat, Point as onePoint, Done as done}
+use Rattle.machine.specs.Machine.{da, ba, code0010, Run, Out, enters, leaves, packStart, packEnd, packPart, says, waits, setsE, setsMode, switchesCell, Answer, running, waiting, finished, stopped, refuse, fresh, step}
 use Rattle.safety.specs.Texts.{night}
 use Rattle.safety.proofs.Opened.{all}
 
@@ -30,14 +30,14 @@ log size t m [] = []
 log size t m (e ∷ es) = let s = step size t m (e .0) (e .1) in (e .0, e .1, s .answer, s .outs) ∷ log size t (s .next) es
 
 abbrev goes : List Out → Entry
-goes os = (calm, no-offer, running, os)
+goes os = (noControl, nothing, running, os)
 
 -- the float that a whole number is
 abbrev volts : ℕ → Float
 volts n = plain (pos n)
 
 abbrev at : ℕ → ℕ → Offer
-at x y = point (record { potential = volts x; current = volts y })
+at x y = onePoint (record { potential = volts x; current = volts y })
 
 abbrev packed : ℕ → ℕ → List Entry
 packed x y = goes (packStart ∷ []) ∷ goes (packPart (real (volts x)) da ∷ []) ∷ goes (packPart (real (volts y)) ba ∷ []) ∷ goes (packEnd ∷ []) ∷ []
@@ -47,7 +47,7 @@ abbrev settle : List Entry
 settle =
     replicate 5 (goes [])
     ++ goes (setsMode 2 ∷ [])
-    ∷ goes (cell true ∷ [])
+    ∷ goes (switchesCell true ∷ [])
     ∷ goes (says (record { start = 93; end = 97 }) ∷ [])
     ∷ replicate 7 (goes [])
     ++ goes (waits (real (over (pos 100) 3)) ∷ [])
@@ -58,14 +58,14 @@ abbrev whole-run : List Entry
 whole-run =
     settle
     -- a float where a point or done is wanted: refused; nothing: a wait; a point enters
-    ++ (calm, one (volts 1), refuse 31, [])
-    ∷ (calm, no-offer, waiting, [])
-    ∷ (calm, at 1 2, running, enters sweepBox ∷ [])
+    ++ (noControl, oneFloat (volts 1), refuse 31, [])
+    ∷ (noControl, nothing, waiting, [])
+    ∷ (noControl, at 1 2, running, enters sweepBox ∷ [])
     ∷ packed 1 2
     ++ goes []
     -- the second point, and a skip in its package: the sweep is left at its endloop
-    ∷ (calm, at 3 4, running, [])
-    ∷ (Y, no-offer, running, packStart ∷ [])
+    ∷ (noControl, at 3 4, running, [])
+    ∷ (Y, nothing, running, packStart ∷ [])
     ∷ goes (packPart (real (volts 3)) da ∷ [])
     ∷ goes (packPart (real (volts 4)) ba ∷ [])
     ∷ goes (packEnd ∷ [])
@@ -82,13 +82,13 @@ whole-run =
     ∷ goes []
     ∷ goes (leaves loopBox ∷ [])
     -- two readings, an empty sweep, the abort, the tag, the end; a finished run repeats its answer
-    ∷ (calm, one (volts 5), running, [])
-    ∷ (calm, one (volts 6), running, [])
-    ∷ (calm, done, running, enters sweepBox ∷ leaves sweepBox ∷ [])
+    ∷ (noControl, oneFloat (volts 5), running, [])
+    ∷ (noControl, oneFloat (volts 6), running, [])
+    ∷ (noControl, done, running, enters sweepBox ∷ leaves sweepBox ∷ [])
     ∷ goes []
     ∷ goes []
-    ∷ goes (cell false ∷ [])
-    ∷ (calm, no-offer, finished, [])
+    ∷ goes (switchesCell false ∷ [])
+    ∷ (noControl, nothing, finished, [])
     ∷ (Z, at 1 2, finished, [])
     ∷ []
 
@@ -96,19 +96,19 @@ whole-run =
 abbrev aborted-run : List Entry
 aborted-run =
     settle
-    ++ (calm, done, running, enters sweepBox ∷ leaves sweepBox ∷ [])
+    ++ (noControl, done, running, enters sweepBox ∷ leaves sweepBox ∷ [])
     ∷ goes (enters loopBox ∷ [])
-    ∷ (Z, no-offer, running, leaves loopBox ∷ [])
-    ∷ goes (cell false ∷ [])
-    ∷ (calm, no-offer, finished, [])
+    ∷ (Z, nothing, running, leaves loopBox ∷ [])
+    ∷ goes (switchesCell false ∷ [])
+    ∷ (noControl, nothing, finished, [])
     ∷ []
 
 -- a point that is not a number stops the run with 0010
 abbrev stopped-run : List Entry
 stopped-run =
     settle
-    ++ (calm, point (record { potential = volts 1; current = nan }), stopped over10, [])
-    ∷ (Z, done, stopped over10, [])
+    ++ (noControl, onePoint (record { potential = volts 1; current = nan }), stopped code0010, [])
+    ∷ (Z, done, stopped code0010, [])
     ∷ []
 
 pub night-accepted : ((loaded night) .number ≡ 0) × (verdict (length night) ((loaded night) .table) ≡ accepted)

@@ -75,16 +75,16 @@ module _ {names size : ℕ} {items : List Item} (ok : Accepted names size items)
           record { b = r .b; bs = r .bs; under = there (r .under); headed = r .headed; loops = r .loops; found = rw (item, e) (r .found) }
 
   pub innermost-loop : {m : Run} {su : Names} {l : List Box} {p tg : Bool} {k : Kinds} {xs : List Item} → Here ok m su l p tg k (breakloop ∷ xs)
-      → Loop (m .pc) (erase l) (breakloop ∷ xs) tg l
+      → Loop (m .at) (erase l) (breakloop ∷ xs) tg l
   innermost-loop {l = []} h = no ((clean ok (h .reach)) .placed)
   innermost-loop {m} {l = b ∷ bs} {tg = tg} {xs = xs} h =
-      find-loop (m .pc) (erase (b ∷ bs)) (breakloop ∷ xs) tg (b ∷ bs) ((static ok (h .reach)) .heads) (not-f (anyBox isLoop (b ∷ bs)) ((clean ok (h .reach)) .placed))
+      find-loop (m .at) (erase (b ∷ bs)) (breakloop ∷ xs) tg (b ∷ bs) ((static ok (h .reach)) .heads) (not-f (anyBox isLoop (b ∷ bs)) ((clean ok (h .reach)) .placed))
 
   strays-not : (x : Item) {ps : List ℕ} (b : Box) (bs : List Box) → ps ≡ positions (b ∷ bs) → fits x (b .sort) ≡ true → strays x ps (erase (b ∷ bs)) ≡ false
   strays-not x b bs q f = rw (q, f, eq-eqb (b .at) (b .at) refl)
 
   abbrev astray : Run → Item → Bool
-  astray m x = isOpen x && isNone (closeOf items (m .pc)) || (isBranch x || isClose x) && strays x (m .opened) (boxesAt items (m .pc)) || isBreak x && noneOpen (unwind items (m .opened))
+  astray m x = isOpen x && isNone (closeOf items (m .at)) || (isBranch x || isClose x) && strays x (m .boxes) (boxesAt items (m .at)) || isBreak x && noneOpen (unwind items (m .boxes))
 
   module _ {m : Run} {su : Names} {p tg : Bool} {k : Kinds} {xs : List Item} where
     not-astray : (x : Item) (l : List Box) → Here ok m su l p tg k (x ∷ xs) → astray m x ≡ false
@@ -104,14 +104,14 @@ module _ {names size : ℕ} {items : List Item} (ok : Accepted names size items)
 
   module _ {m : Run} {su : Names} {l : List Box} {p tg : Bool} {k : Kinds} {x : Item} {xs : List Item} (h : Here ok m su l p tg k (x ∷ xs)) where
     abbrev full : Bool
-    full = isOpen x && leb 8 (length (m .opened)) && not (opensA isLoop x && inside (m .pc) (m .opened))
+    full = isOpen x && leb 8 (length (m .boxes)) && not (opensA isLoop x && inside (m .at) (m .boxes))
 
     not-full : full ≡ false
     not-full = go (h .boxes)
       where
-        go : Opened (m .pc) (x ∷ xs) (m .opened) l → full ≡ false
+        go : Opened (m .at) (x ∷ xs) (m .boxes) l → full ≡ false
         go (inl q) = rw (q, length-positions l, (clean ok (h .reach)) .eighth)
-        go (inr q) = rw (q .0, q .1, eq-eqb (m .pc) (m .pc) refl) (and-false (isOpen x && leb 8 (suc (length (positions l)))))
+        go (inr q) = rw (q .0, q .1, eq-eqb (m .at) (m .at) refl) (and-false (isOpen x && leb 8 (suc (length (positions l)))))
 
     pub no-fault : first (faults items m x) ≡ 0
     no-fault =
@@ -123,12 +123,12 @@ module _ {names size : ℕ} {items : List Item} (ok : Accepted names size items)
 
   module _ {m : Run} {su : Names} {l : List Box} {p tg : Bool} {k : Kinds} {c : Condition} {xs : List Item} (h : Here ok m su l p tg k (opens (if' c) ∷ xs)) where
     abbrev pub tried-mates : Chosen
-    tried-mates = choose (m .vars) (m .pc) (m .pc) (boxesAt items (m .pc)) (drop (m .pc) items)
+    tried-mates = choose (m .vars) (m .at) (m .at) (boxesAt items (m .at)) (drop (m .at) items)
 
-    pub mates-good : Picks items (m .pc) su l tried-mates
+    pub mates-good : Picks items (m .at) su l tried-mates
     mates-good =
         let s = static ok (h .reach) in
-        rw (s .scanned, s .text, no-mark (opens (if' c)) (λ s. refl) (m .pc) (erase l)) (choose-good ok (m .vars) xs (more (h .reach)) here refl refl (readable (knows ok h)))
+        rw (s .scanned, s .text, no-mark (opens (if' c)) (λ s. refl) (m .at) (erase l)) (choose-good ok (m .vars) xs (more (h .reach)) here refl refl (readable (knows ok h)))
 
   picks-good : {i : ℕ} {su : Names} {l : List Box} {d : Chosen} → Picks items i su l d → badOf d ≡ 0
   picks-good (goes r e f) = refl

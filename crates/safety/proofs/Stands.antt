@@ -17,7 +17,7 @@ use Rattle.mates.specs.declared.Open.{Open}
 use Rattle.mates.specs.Mates.{closeOf, itemAt}
 use Rattle.rules.specs.declared.OpenBox.{OpenBox as Box}
 use Rattle.rules.specs.Check.{learn, kindsOf, State}
-use Rattle.machine.specs.Machine.{Status, live, ended, halted, broken, Run, outside, isNone, opensOk, runOk}
+use Rattle.machine.specs.Machine.{Status, live, finishedRun, stoppedRun, faultRun, Run, outside, isNone, opensOk, runOk}
 use Rattle.safety.specs.Safety.{isCode}
 use Rattle.safety.proofs.Laws.{no, no′, and-t, drop-getD}
 use Rattle.safety.proofs.Walk.{textKinds, Accepted, state, Reach, clean, reach-kinds}
@@ -25,7 +25,7 @@ use Rattle.safety.proofs.Boxes.{erase, Below, Heads}
 use Rattle.safety.proofs.Sure.{isKnown, Within, learn-up}
 use Rattle.safety.proofs.Static.{static}
 use Rattle.safety.proofs.Mates.{close-head}
-use Rattle.safety.proofs.Names.{Covers, AllCover, VarsOk, slots-ok, Knows}
+use Rattle.safety.proofs.Names.{Covers, AllCover, VarsOk, cells-ok, Knows}
 
 abbrev pub positions : List Box → List ℕ
 positions [] = []
@@ -51,8 +51,8 @@ outside-eq i xs ps l w (inr q) = rw (q .0, eq-eqb i i refl)
 module _ {names size : ℕ} {items : List Item} (ok : Accepted names size items) where
   -- the checker's state before the item: su surely written, the boxes l, a package open or not, the tag seen or not
   pub record Here (m : Run) (su : Names) (l : List Box) (p tg : Bool) (k : Kinds) (xs : List Item) : Type 0 where
-    pub reach : Reach items (m .pc) (state su l p tg) k xs
-    pub boxes : Opened (m .pc) xs (m .opened) l
+    pub reach : Reach items (m .at) (state su l p tg) k xs
+    pub boxes : Opened (m .at) xs (m .boxes) l
     pub packed : m .packed ≡ p
     pub cover : Covers su (m .vars)
     pub covers : AllCover l (m .vars)
@@ -71,9 +71,9 @@ module _ {names size : ℕ} {items : List Item} (ok : Accepted names size items)
   -- a run that has ended or stopped only repeats its answer; it is never broken by a fault
   abbrev pub Life : Status → Run → Type 0
   Life live m = Inv m
-  Life ended m = Unit {0}
-  Life (halted c) m = isCode c ≡ true
-  Life (broken n) m = ⊥
+  Life finishedRun m = Unit {0}
+  Life (stoppedRun c) m = isCode c ≡ true
+  Life (faultRun n) m = ⊥
 
   pub record Good (m : Run) : Type 0 where
     pub shape : runOk items m ≡ true
@@ -111,8 +111,8 @@ module _ {names size : ℕ} {items : List Item} (ok : Accepted names size items)
     pub shape-of : {xs : List Item} → Here m su l p tg k xs → runOk items m ≡ true
     shape-of {xs} h =
         let s = static ok (h .reach) in
-        let o = opens-ok xs (m .opened) (h .reach) (h .boxes) in
-        rw (le-leb (m .pc) (length items) (omega (arith, s .span)), o .0, o .1) (slots-ok (m .vars) (h .vars .fine))
+        let o = opens-ok xs (m .boxes) (h .reach) (h .boxes) in
+        rw (le-leb (m .at) (length items) (omega (arith, s .span)), o .0, o .1) (cells-ok (m .vars) (h .vars .fine))
 
     pub good : {xs : List Item} → Here m su l p tg k xs → Good m
     good {xs} h = record {
@@ -121,21 +121,21 @@ module _ {names size : ℕ} {items : List Item} (ok : Accepted names size items)
     }
 
     -- where a step lands
-    pub land : {xs : List Item} → Reach items (m .pc) (state su l p tg) k xs
-        → Opened (m .pc) xs (m .opened) l → m .packed ≡ p → Covers su (m .vars) → AllCover l (m .vars) → VarsOk (textKinds items) (m .vars) → m .status ≡ live → Good m
+    pub land : {xs : List Item} → Reach items (m .at) (state su l p tg) k xs
+        → Opened (m .at) xs (m .boxes) l → m .packed ≡ p → Covers su (m .vars) → AllCover l (m .vars) → VarsOk (textKinds items) (m .vars) → m .status ≡ live → Good m
     land r o q c d v a = good (record { reach = r; boxes = o; packed = q; cover = c; covers = d; vars = v; living = a })
 
     -- at an item that is no loop the open boxes are the text's
-    pub not-again : {x : Item} {xs : List Item} → Here m su l p tg k (x ∷ xs) → opensA isLoop x ≡ false → m .opened ≡ positions l
+    pub not-again : {x : Item} {xs : List Item} → Here m su l p tg k (x ∷ xs) → opensA isLoop x ≡ false → m .boxes ≡ positions l
     not-again {x} {xs} h e = go (h .boxes)
       where
-        go : Opened (m .pc) (x ∷ xs) (m .opened) l → m .opened ≡ positions l
+        go : Opened (m .at) (x ∷ xs) (m .boxes) l → m .boxes ≡ positions l
         go (inl q) = q
         go (inr q) = no (sym (q .1) ∙ e)
 
     -- outside its own box too
-    pub outside-is : {xs : List Item} → Here m su l p tg k xs → outside (m .pc) (m .opened) ≡ positions l
-    outside-is {xs} h = outside-eq (m .pc) xs (m .opened) l ((static ok (h .reach)) .below) (h .boxes)
+    pub outside-is : {xs : List Item} → Here m su l p tg k xs → outside (m .at) (m .boxes) ≡ positions l
+    outside-is {xs} h = outside-eq (m .at) xs (m .boxes) l ((static ok (h .reach)) .below) (h .boxes)
 
   -- ---- the kinds of the whole text
 

@@ -18,15 +18,15 @@ use Rattle.table.specs.Uses.{gives, Kinds, Names, first}
 use Rattle.rules.specs.declared.OpenBox.{OpenBox as Box}
 use Rattle.rules.specs.Check.{State, isEmpty}
 use Rattle.machine.specs.declared.Control.{Control}
-use Rattle.machine.specs.declared.Control.the-variants.{None as calm, Z, Y}
+use Rattle.machine.specs.declared.Control.the-variants.{None as noControl, Z, Y}
 use Rattle.machine.specs.declared.Offer.{Offer}
-use Rattle.machine.specs.declared.Offer.the-variants.{Nothing as no-offer, Float as one, Point as point, Done as done}
-use Rattle.machine.specs.Machine.{Run, Out, Step, isEmpty as noneOpen, anyOpen, leaveOuts, isNone, said, next, run, Meets, ready, short, amiss, quiet, asksOne, asksPoint, meets, served, finish, atItem, told, tagFrom, cleared, aborted, moved, runOk}
-use Rattle.safety.specs.Safety.{no-reading, one-float, point-or-done, wantedBy, wantedFrom, abortDue, wantedAt, mismatch}
+use Rattle.machine.specs.declared.Offer.the-variants.{Nothing as nothing, Float as oneFloat, Point as onePoint, Done as done}
+use Rattle.machine.specs.Machine.{Run, Out, Step, isEmpty as noneOpen, anyOpen, leaveOuts, isNone, said, next, run, Meets, ready, short, amiss, asksNothing, asksFloat, asksPoint, meets, served, finish, atItem, told, tagFrom, cleared, aborted, moved, runOk}
+use Rattle.safety.specs.Safety.{wantsNothing, wantsFloat, wantsPoint, wantedBy, wantedFrom, abortDue, wantedAt, mismatch}
 use Rattle.safety.proofs.Laws.{no, no′, or-r, and-r, not-t, not-nothing}
 use Rattle.safety.proofs.Walk.{Accepted, state, Reach, outset, more, clean, ends}
 use Rattle.safety.proofs.Static.{static}
-use Rattle.safety.proofs.Names.{slots-ok}
+use Rattle.safety.proofs.Names.{cells-ok}
 use Rattle.safety.proofs.Stands.{Opened, Here, Good, shape-of, good, land}
 use Rattle.safety.proofs.NoFault.{no-fault, no-try}
 use Rattle.safety.proofs.Items.{FineStep, run-fine}
@@ -43,28 +43,28 @@ isShort short = true
 isShort amiss = false
 
 -- where nothing is wanted there is no wait
-quiet-short : (o : Offer) → isShort (quiet o) ≡ false
-quiet-short no-offer = refl
-quiet-short (one x) = refl
-quiet-short (point p) = refl
+quiet-short : (o : Offer) → isShort (asksNothing o) ≡ false
+quiet-short nothing = refl
+quiet-short (oneFloat x) = refl
+quiet-short (onePoint p) = refl
 quiet-short done = refl
 
-quiet-amiss : (o : Offer) → isAmiss (quiet o) ≡ mismatch no-reading o
-quiet-amiss no-offer = refl
-quiet-amiss (one x) = refl
-quiet-amiss (point p) = refl
+quiet-amiss : (o : Offer) → isAmiss (asksNothing o) ≡ mismatch wantsNothing o
+quiet-amiss nothing = refl
+quiet-amiss (oneFloat x) = refl
+quiet-amiss (onePoint p) = refl
 quiet-amiss done = refl
 
-one-amiss : (o : Offer) → isAmiss (asksOne o) ≡ mismatch one-float o
-one-amiss no-offer = refl
-one-amiss (one x) = refl
-one-amiss (point p) = refl
+one-amiss : (o : Offer) → isAmiss (asksFloat o) ≡ mismatch wantsFloat o
+one-amiss nothing = refl
+one-amiss (oneFloat x) = refl
+one-amiss (onePoint p) = refl
 one-amiss done = refl
 
-point-amiss : (o : Offer) → isAmiss (asksPoint o) ≡ mismatch point-or-done o
-point-amiss no-offer = refl
-point-amiss (one x) = refl
-point-amiss (point p) = refl
+point-amiss : (o : Offer) → isAmiss (asksPoint o) ≡ mismatch wantsPoint o
+point-amiss nothing = refl
+point-amiss (oneFloat x) = refl
+point-amiss (onePoint p) = refl
 point-amiss done = refl
 
 meets-amiss : (x : Item) (o : Offer) → isAmiss (meets (gives x) o) ≡ mismatch (wantedBy x) o
@@ -102,10 +102,10 @@ module _ {names size : ℕ} {items : List Item} (ok : Accepted names size items)
     pub waits : isShort met ≡ true → Good ok m₁
     pub fine : FineStep ok made
 
-  quiet-comes : (m m₁ : Run) (o : Offer) (s : Step) → FineStep ok s → Comes m (mismatch no-reading o) (served m m₁ (quiet o) s)
-  quiet-comes m m₁ o s f = record { met = quiet o; m₁ = m₁; made = s; is = refl; amiss-is = quiet-amiss o; waits = λ e. no′ (sym (quiet-short o) ∙ e); fine = f }
+  quiet-comes : (m m₁ : Run) (o : Offer) (s : Step) → FineStep ok s → Comes m (mismatch wantsNothing o) (served m m₁ (asksNothing o) s)
+  quiet-comes m m₁ o s f = record { met = asksNothing o; m₁ = m₁; made = s; is = refl; amiss-is = quiet-amiss o; waits = λ e. no′ (sym (quiet-short o) ∙ e); fine = f }
 
-  finish-comes : (m₀ m : Run) (o : Offer) (os : List Out) → runOk items m ≡ true → Comes m₀ (mismatch no-reading o) (finish m₀ m o os)
+  finish-comes : (m₀ m : Run) (o : Offer) (os : List Out) → runOk items m ≡ true → Comes m₀ (mismatch wantsNothing o) (finish m₀ m o os)
   finish-comes m₀ m o os g = quiet-comes m₀ m o _ (record { shape = g; life = tt })
 
   -- ---- an abort: to the tag, or to the end
@@ -136,17 +136,17 @@ module _ {names size : ℕ} {items : List Item} (ok : Accepted names size items)
   -- ---- from where the walk stood, m₀ before the step and m with the control
 
   module _ (m₀ : Run) {m : Run} {su : Names} {l : List Box} {p tg : Bool} {k : Kinds} (o : Offer) where
-    end-boxes : Here ok m su l p tg k [] → noneOpen (m .opened) ≡ true
+    end-boxes : Here ok m su l p tg k [] → noneOpen (m .boxes) ≡ true
     end-boxes h = go l (h .boxes) ((ends ok (h .reach)) .0)
       where
-        go : (l : List Box) → Opened (m .pc) [] (m .opened) l → isEmpty l ≡ true → noneOpen (m .opened) ≡ true
+        go : (l : List Box) → Opened (m .at) [] (m .boxes) l → isEmpty l ≡ true → noneOpen (m .boxes) ≡ true
         go [] (inl q) e = rw q
         go (b ∷ bs) (inl q) e = no′ e
         go l (inr q) e = no′ (q .1)
 
     item-comes : (xs : List Item) → Here ok m su l p tg k xs → Comes m₀ (mismatch (wantedFrom xs) o) (atItem items m₀ m o xs)
     item-comes [] h =
-        let z : first ((62, not (noneOpen (m .opened))) ∷ (64, m .packed) ∷ []) ≡ 0 = rw (end-boxes h, h .packed, (ends ok (h .reach)) .1) in
+        let z : first ((62, not (noneOpen (m .boxes))) ∷ (64, m .packed) ∷ []) ≡ 0 = rw (end-boxes h, h .packed, (ends ok (h .reach)) .1) in
         rw z (finish-comes m₀ m o [] (shape-of ok h))
     item-comes (x ∷ xs) h =
         rw (no-fault ok h, no-try ok x h) (record {
@@ -162,18 +162,18 @@ module _ {names size : ℕ} {items : List Item} (ok : Accepted names size items)
     module _ {xs : List Item} (h : Here ok m su l p tg k xs) where
       -- all boxes closed, at item i
       cleared-ok : (i : ℕ) → i ≤ length items → runOk items (cleared m i) ≡ true
-      cleared-ok i g = rw (le-leb i (length items) g, slots-ok (m .vars) (h .vars .fine))
+      cleared-ok i g = rw (le-leb i (length items) g, cells-ok (m .vars) (h .vars .fine))
 
       abbrev to-end : Step
-      to-end = finish m₀ (cleared m (m .pc)) o (leaveOuts items (m .opened))
+      to-end = finish m₀ (cleared m (m .at)) o (leaveOuts items (m .boxes))
 
       abbrev to-tag : ℕ → Step
-      to-tag i = served m₀ (cleared m i) (quiet o) (said (leaveOuts items (m .opened)) (next (cleared m i)))
+      to-tag i = served m₀ (cleared m i) (asksNothing o) (said (leaveOuts items (m .boxes)) (next (cleared m i)))
 
-      ending : Comes m₀ (mismatch no-reading o) to-end
-      ending = finish-comes m₀ (cleared m (m .pc)) o (leaveOuts items (m .opened)) (cleared-ok (m .pc) (omega (arith, (static ok (h .reach)) .span)))
+      ending : Comes m₀ (mismatch wantsNothing o) to-end
+      ending = finish-comes m₀ (cleared m (m .at)) o (leaveOuts items (m .boxes)) (cleared-ok (m .at) (omega (arith, (static ok (h .reach)) .span)))
 
-      tag-comes : {i : ℕ} → m .packed ≡ false → Tagged i → Comes m₀ (mismatch no-reading o) (to-tag i)
+      tag-comes : {i : ℕ} → m .packed ≡ false → Tagged i → Comes m₀ (mismatch wantsNothing o) (to-tag i)
       tag-comes {i} q g = quiet-comes m₀ (cleared m i) o _ (land ok (more at-tag) (inl refl) q (λ n e. not-nothing n e) tt (h .vars) (h .living))
         where
           boxes : g .s .boxes ≡ []
@@ -182,11 +182,11 @@ module _ {names size : ℕ} {items : List Item} (ok : Accepted names size items)
           at-tag : Reach items i (state (g .s .sure) [] false (g .s .tagged)) (g .k) (tag ∷ g .ys)
           at-tag = rw (boxes, (clean ok (g .reach)) .packed) at (g .reach)
 
-      abort-comes : (f : Option ℕ) → tagFrom 0 items ≡ f → m .packed ≡ false → Comes m₀ (mismatch no-reading o) (aborted items m₀ m o f)
+      abort-comes : (f : Option ℕ) → tagFrom 0 items ≡ f → m .packed ≡ false → Comes m₀ (mismatch wantsNothing o) (aborted items m₀ m o f)
       abort-comes none e q = ending
-      abort-comes (some i) e q = go (ltb i (m .pc))
+      abort-comes (some i) e q = go (ltb i (m .at))
         where
-          go : (b : Bool) → Comes m₀ (mismatch no-reading o) (cond b to-end (to-tag i))
+          go : (b : Bool) → Comes m₀ (mismatch wantsNothing o) (cond b to-end (to-tag i))
           go true = ending
           go false = tag-comes q (find-tag items 0 i outset e)
 
@@ -194,12 +194,12 @@ module _ {names size : ℕ} {items : List Item} (ok : Accepted names size items)
       moved-comes = go (abortDue items m) refl
         where
           go : (b : Bool) → abortDue items m ≡ b
-              → Comes m₀ (mismatch (cond b no-reading (wantedFrom (drop (m .pc) items))) o) (cond b (aborted items m₀ m o (tagFrom 0 items)) (atItem items m₀ m o (drop (m .pc) items)))
-          go true e = abort-comes (tagFrom 0 items) refl (not-t (m .packed) (and-r (m .pending && not (anyOpen isSweep items (m .opened))) (not (m .packed)) e))
+              → Comes m₀ (mismatch (cond b wantsNothing (wantedFrom (drop (m .at) items))) o) (cond b (aborted items m₀ m o (tagFrom 0 items)) (atItem items m₀ m o (drop (m .at) items)))
+          go true e = abort-comes (tagFrom 0 items) refl (not-t (m .packed) (and-r (m .pending && not (anyOpen isSweep items (m .boxes))) (not (m .packed)) e))
           go false e = rw ((static ok (h .reach)) .text) (item-comes xs h)
 
   -- the control moves nothing
   pub told-here : {m : Run} (c : Control) {su : Names} {l : List Box} {p tg : Bool} {k : Kinds} {xs : List Item} → Here ok m su l p tg k xs → Here ok (told items m c) su l p tg k xs
-  told-here calm h = h
+  told-here noControl h = h
   told-here Z h = record { reach = h .reach; boxes = h .boxes; packed = h .packed; cover = h .cover; covers = h .covers; vars = h .vars; living = h .living }
   told-here Y h = record { reach = h .reach; boxes = h .boxes; packed = h .packed; cover = h .cover; covers = h .covers; vars = h .vars; living = h .living }

@@ -18,67 +18,67 @@ use Rattle.script.specs.Load.{loaded}
 use Rattle.rules.specs.Check.{accepted, refused, verdict}
 use Rattle.machine.specs.declared.Control.{Control}
 use Rattle.machine.specs.declared.Offer.{Offer}
-use Rattle.machine.specs.declared.Offer.the-variants.{Nothing as no-offer, Float as one, Point as point, Done as done}
-use Rattle.machine.specs.Machine.{Status, live, ended, halted, broken, zero28, over10, Run, Answer, running, waiting, finished, stopped, fault, refuse, Step, fresh, anyOpen, told, step}
+use Rattle.machine.specs.declared.Offer.the-variants.{Nothing as nothing, Float as oneFloat, Point as onePoint, Done as done}
+use Rattle.machine.specs.Machine.{Status, live, finishedRun, stoppedRun, faultRun, code0028, code0010, Run, Answer, running, waiting, finished, stopped, fault, refuse, Step, fresh, anyOpen, told, step}
 
 -- ---- an offer of the wrong sort
 
 -- what the run wants where it stands: nothing, one float, or a point or done
 pub data Wanted : Type 0 where
-  no-reading one-float point-or-done : Wanted
+  wantsNothing wantsFloat wantsPoint : Wanted
 
 -- meas_loop_lsv wants a point or done, meas and timer_get one float, others nothing
 abbrev pub wantedBy : Item → Wanted
-wantedBy (act (var v)) = no-reading
-wantedBy (act (store v l t)) = no-reading
-wantedBy (act (copy a b)) = no-reading
-wantedBy (act (calc o v x)) = no-reading
-wantedBy (act (meas f v t)) = one-float
-wantedBy (act (timerGet v)) = one-float
-wantedBy (act (sendString s)) = no-reading
-wantedBy (act (wait f)) = no-reading
-wantedBy (act (setE f)) = no-reading
-wantedBy (act (setMode n)) = no-reading
-wantedBy (act timerStart) = no-reading
-wantedBy (act cellOn) = no-reading
-wantedBy (act cellOff) = no-reading
-wantedBy (act abort) = no-reading
-wantedBy (pack p) = no-reading
-wantedBy (opens (if' c)) = no-reading
-wantedBy (opens (loop c)) = no-reading
-wantedBy (opens (sweep w)) = point-or-done
-wantedBy (branch b) = no-reading
-wantedBy (closes e) = no-reading
-wantedBy breakloop = no-reading
-wantedBy tag = no-reading
+wantedBy (act (var v)) = wantsNothing
+wantedBy (act (store v l t)) = wantsNothing
+wantedBy (act (copy a b)) = wantsNothing
+wantedBy (act (calc o v x)) = wantsNothing
+wantedBy (act (meas f v t)) = wantsFloat
+wantedBy (act (timerGet v)) = wantsFloat
+wantedBy (act (sendString s)) = wantsNothing
+wantedBy (act (wait f)) = wantsNothing
+wantedBy (act (setE f)) = wantsNothing
+wantedBy (act (setMode n)) = wantsNothing
+wantedBy (act timerStart) = wantsNothing
+wantedBy (act cellOn) = wantsNothing
+wantedBy (act cellOff) = wantsNothing
+wantedBy (act abort) = wantsNothing
+wantedBy (pack p) = wantsNothing
+wantedBy (opens (if' c)) = wantsNothing
+wantedBy (opens (loop c)) = wantsNothing
+wantedBy (opens (sweep w)) = wantsPoint
+wantedBy (branch b) = wantsNothing
+wantedBy (closes e) = wantsNothing
+wantedBy breakloop = wantsNothing
+wantedBy tag = wantsNothing
 
 -- a step at the end of the items wants nothing
 abbrev pub wantedFrom : List Item → Wanted
-wantedFrom [] = no-reading
+wantedFrom [] = wantsNothing
 wantedFrom (x ∷ xs) = wantedBy x
 
 -- an abort is due: pending, outside every measuring loop, and no package is open
 abbrev pub abortDue : List Item → Run → Bool
-abortDue xs m = m .pending && not (anyOpen isSweep xs (m .opened)) && not (m .packed)
+abortDue xs m = m .pending && not (anyOpen isSweep xs (m .boxes)) && not (m .packed)
 
 -- a step in which an abort takes effect wants nothing
 abbrev pub wantedAt : List Item → Run → Wanted
-wantedAt xs m = cond (abortDue xs m) no-reading (wantedFrom (drop (m .pc) xs))
+wantedAt xs m = cond (abortDue xs m) wantsNothing (wantedFrom (drop (m .at) xs))
 
 -- something is offered, and it is not what is wanted
 abbrev pub mismatch : Wanted → Offer → Bool
-mismatch no-reading no-offer = false
-mismatch no-reading (one x) = true
-mismatch no-reading (point p) = true
-mismatch no-reading done = true
-mismatch one-float no-offer = false
-mismatch one-float (one x) = false
-mismatch one-float (point p) = true
-mismatch one-float done = true
-mismatch point-or-done no-offer = false
-mismatch point-or-done (one x) = true
-mismatch point-or-done (point p) = false
-mismatch point-or-done done = false
+mismatch wantsNothing nothing = false
+mismatch wantsNothing (oneFloat x) = true
+mismatch wantsNothing (onePoint p) = true
+mismatch wantsNothing done = true
+mismatch wantsFloat nothing = false
+mismatch wantsFloat (oneFloat x) = false
+mismatch wantsFloat (onePoint p) = true
+mismatch wantsFloat done = true
+mismatch wantsPoint nothing = false
+mismatch wantsPoint (oneFloat x) = true
+mismatch wantsPoint (onePoint p) = false
+mismatch wantsPoint done = false
 
 -- the run is first told the control: a Z may make an abort due
 abbrev pub wrongSort : List Item → Run → Control → Offer → Bool
@@ -88,7 +88,7 @@ wrongSort xs m c o = mismatch (wantedAt xs (told xs m c)) o
 
 -- 0028 or 0010
 abbrev pub isCode : ℕ → Bool
-isCode n = eqb n zero28 || eqb n over10
+isCode n = eqb n code0028 || eqb n code0010
 
 -- of the refusals 31 alone, and no fault
 abbrev pub allowed : Answer → Bool
@@ -101,9 +101,9 @@ allowed (refuse n) = eqb n 31
 
 abbrev pub unbroken : Status → Bool
 unbroken live = true
-unbroken ended = true
-unbroken (halted n) = isCode n
-unbroken (broken n) = false
+unbroken finishedRun = true
+unbroken (stoppedRun n) = isCode n
+unbroken (faultRun n) = false
 
 -- what is promised of a step s of the run m
 pub record Promise (items : List Item) (m : Run) (c : Control) (o : Offer) (s : Step) : Type 0 where

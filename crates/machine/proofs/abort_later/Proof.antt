@@ -10,7 +10,7 @@ with-pending-requires : tie.Need-with-pending-requires
 with-pending-requires c κs = search needs
 
 go-quietly-requires : tie.Need-go-quietly-requires
-go-quietly-requires c κs = omega (arith, ap (λ (x : Run). x .pc) (c .with-pending .ensures), c .before .pre)
+go-quietly-requires c κs = omega (arith, ap (λ (x : Run). x .at) (c .with-pending .ensures), c .before .pre)
 
 returns : tie.Need-returns
 returns c = c .go-quietly .ensures ∙ ap (λ (x : Run). said [] (next x)) (c .before .with-pending .ensures)

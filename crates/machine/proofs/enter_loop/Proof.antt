@@ -21,7 +21,7 @@ push-box-requires : tie.Need-push-box-requires
 push-box-requires c κs = room (c .before .before .args .m) (c .before .before .pre .1) (sym (c .before .top-is .ensures) ∙ c .if1 .left)
 
 go-saying-requires : tie.Need-go-saying-requires
-go-saying-requires c κs = omega (arith, ap (λ (x : Run). x .pc) (c .push-box .ensures), c .before .before .before .pre .0 .within)
+go-saying-requires c κs = omega (arith, ap (λ (x : Run). x .at) (c .push-box .ensures), c .before .before .before .pre .0 .within)
 
 returns-2 : tie.Need-returns-2
 returns-2 c = c .go-saying .ensures ∙ ap (λ (x : Run). said (enters (c .before .before .before .before .args .s) ∷ []) (next x)) (c .before .push-box .ensures) ∙ enter-first (c .before .before .before .before .args .s) (runOf (c .before .before .before .before .args .m)) (sym (c .before .before .before .top-is .ensures) ∙ c .before .before .if1 .left)

@@ -24,7 +24,7 @@ clear-boxes-requires : tie.Need-clear-boxes-requires
 clear-boxes-requires c κs = search needs
 
 go-on-requires : tie.Need-go-on-requires
-go-on-requires c κs = omega (arith, ap (λ (x : Run). x .pc) (c .clear-boxes .ensures), c .before .before .before .before .before .pre .1)
+go-on-requires c κs = omega (arith, ap (λ (x : Run). x .at) (c .clear-boxes .ensures), c .before .before .before .before .before .pre .1)
 
 handing-requires : tie.Need-handing-requires
 handing-requires c κs = search needs

@@ -10,7 +10,7 @@ put-cell-requires : tie.Need-put-cell-requires
 put-cell-requires c κs = search needs
 
 go-quietly-requires : tie.Need-go-quietly-requires
-go-quietly-requires c κs = omega (arith, ap (λ (x : Run). x .pc) (c .put-cell .ensures), c .before .pre)
+go-quietly-requires c κs = omega (arith, ap (λ (x : Run). x .at) (c .put-cell .ensures), c .before .pre)
 
 returns : tie.Need-returns
 returns c = c .go-quietly .ensures ∙ ap (λ (x : Run). said [] (next x)) (c .before .put-cell .ensures)

@@ -12,27 +12,27 @@ go-writing-requires c κs = search needs
 enum-told : tie.Need-enum-told
 enum-told c = search needs
 
-halt-by-requires : tie.Need-halt-by-requires
-halt-by-requires c κs = search needs
+stop-by-requires : tie.Need-stop-by-requires
+stop-by-requires c κs = search needs
 
 enum-told-2 : tie.Need-enum-told-2
 enum-told-2 c = search needs
 
-halt-by-requires-2 : tie.Need-halt-by-requires-2
-halt-by-requires-2 c κs = search needs
+stop-by-requires-2 : tie.Need-stop-by-requires-2
+stop-by-requires-2 c κs = search needs
 
 returns : tie.Need-returns
 returns c = c .go-writing .ensures ∙ simp (c .before .before .c .given .1)
 
 returns-2 : tie.Need-returns-2
-returns-2 c = c .halt-by .ensures ∙ simp (c .before .enum-told .given .1)
+returns-2 c = c .stop-by .ensures ∙ simp (c .before .enum-told .given .1)
 
 returns-3 : tie.Need-returns-3
-returns-3 c = c .halt-by2 .ensures ∙ simp (c .before .enum-told2 .given .1)
+returns-3 c = c .stop-by2 .ensures ∙ simp (c .before .enum-told2 .given .1)
 
 pub keep-result-spec : {M : Type 1} → statement M
 keep-result-spec =
     tie.close
     (tie.spec
-    enum-known-c go-writing-requires enum-told halt-by-requires enum-told-2 halt-by-requires-2
+    enum-known-c go-writing-requires enum-told stop-by-requires enum-told-2 stop-by-requires-2
     returns returns-2 returns-3)

@@ -1,6 +1,6 @@
 use Rattle.machine.proofs.Names.{said-start, said-more, said-end}
-use Rattle.machine.specs.Meaning.{slotsOf}
-use Rattle.machine.specs.Machine.{slotKind}
+use Rattle.machine.specs.Meaning.{cellsOf}
+use Rattle.machine.specs.Machine.{cellKind}
 use borrow.Author.Needs.{needs}
 use native.Mathlib.Omega.{arith}
 use lib.Seq.{sets}
@@ -12,13 +12,13 @@ use Rattle.machine.proofs.kinds_now.Statement.{statement}
 use Rattle.machine.proofs.kinds_now.Tie as tie
 
 abbrev Inv-loop : tie.InvT-loop
-Inv-loop m t₀ i₀ t i = (i ≤ 32) × (length t ≡ 32) × (sets t i (drop i (map slotKind (slotsOf (m .vars)))) ≡ map slotKind (slotsOf (m .vars)))
+Inv-loop m t₀ i₀ t i = (i ≤ 32) × (length t ≡ 32) × (sets t i (drop i (map cellKind (cellsOf (m .vars)))) ≡ map cellKind (cellsOf (m .vars)))
 
 abbrev μ-loop : tie.MeasureT-loop
 μ-loop m t₀ i₀ t i = 32 - i
 
 loop-holds : tie.Need-loop-holds Inv-loop μ-loop
-loop-holds c = (omega arith, refl, said-start slotKind (c .args .t1 .vars) _ (omega (arith, simp length-map at (c .good .0 .1 .1 .1 .1 .1 .0 .1 .0 .1))))
+loop-holds c = (omega arith, refl, said-start cellKind (c .args .t1 .vars) _ (omega (arith, simp length-map at (c .good .0 .1 .1 .1 .1 .1 .0 .1 .0 .1))))
 
 mul-v : tie.Need-mul-v Inv-loop μ-loop
 mul-v c = search needs
@@ -42,10 +42,10 @@ loop-less : tie.Need-loop-less Inv-loop μ-loop
 loop-less c = search needs
 
 loop-again : tie.Need-loop-again Inv-loop μ-loop
-loop-again c = (search needs, simp length-set (c .before .before .before .loop .inv .1), rw (c .cell-kind .ensures) (sym (said-more slotKind (c .before .before .before .before .args .t1 .vars) (c .before .before .before .loop .t) (c .before .before .before .loop .i) (omega (arith, simp length-map at (c .before .before .before .before .good .0 .1 .1 .1 .1 .1 .0 .1 .0 .1), c .before .before .loop-test .taken))) ∙ c .before .before .before .loop .inv .2))
+loop-again c = (search needs, simp length-set (c .before .before .before .loop .inv .1), rw (c .cell-kind .ensures) (sym (said-more cellKind (c .before .before .before .before .args .t1 .vars) (c .before .before .before .loop .t) (c .before .before .before .loop .i) (omega (arith, simp length-map at (c .before .before .before .before .good .0 .1 .1 .1 .1 .1 .0 .1 .0 .1), c .before .before .loop-test .taken))) ∙ c .before .before .before .loop .inv .2))
 
 returns : tie.Need-returns Inv-loop μ-loop
-returns c = sym (said-end slotKind (c .before .before .args .t1 .vars) (c .before .loop .t) (c .before .loop .i) (omega (arith, simp length-map at (c .before .before .good .0 .1 .1 .1 .1 .1 .0 .1 .0 .1), c .loop-test .left))) ∙ c .before .loop .inv .2
+returns c = sym (said-end cellKind (c .before .before .args .t1 .vars) (c .before .loop .t) (c .before .loop .i) (omega (arith, simp length-map at (c .before .before .good .0 .1 .1 .1 .1 .1 .0 .1 .0 .1), c .loop-test .left))) ∙ c .before .loop .inv .2
 
 pub kinds-now-spec : {M : Type 1} → statement M
 kinds-now-spec =

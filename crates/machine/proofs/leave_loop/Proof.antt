@@ -26,7 +26,7 @@ hand-out-requires : tie.Need-hand-out-requires
 hand-out-requires c κs = search needs
 
 returns : tie.Need-returns
-returns c = λ xs k. c .hand-out .ensures ∙ ap (λ (x : Run). said (leaves (c .before .before .before .before .before .before .before .args .s) ∷ []) x) (c .before .leave-to .ensures ∙ ap (λ (x : Run). unskip (c .before .before .before .before .before .is-sweep .result) (goto x (c .before .before .before .before .before .before .close-of .result) (x .opened))) (c .before .before .pop-box .ensures)) ∙ leave-again xs (c .before .before .before .before .before .before .before .args .s) (runOf (c .before .before .before .before .before .before .before .args .m)) (c .before .before .before .before .before .is-sweep .result) (c .before .before .before .before .before .before .close-of .result) (c .before .before .before .before .before .is-sweep .ensures) (c .before .before .before .before .before .before .close-of .ensures xs k) (sym (c .before .before .before .before .top-is .ensures) ∙ c .before .before .before .if1 .taken)
+returns c = λ xs k. c .hand-out .ensures ∙ ap (λ (x : Run). said (leaves (c .before .before .before .before .before .before .before .args .s) ∷ []) x) (c .before .leave-to .ensures ∙ ap (λ (x : Run). unskip (c .before .before .before .before .before .is-sweep .result) (goto x (c .before .before .before .before .before .before .close-of .result) (x .boxes))) (c .before .before .pop-box .ensures)) ∙ leave-again xs (c .before .before .before .before .before .before .before .args .s) (runOf (c .before .before .before .before .before .before .before .args .m)) (c .before .before .before .before .before .is-sweep .result) (c .before .before .before .before .before .before .close-of .result) (c .before .before .before .before .before .is-sweep .ensures) (c .before .before .before .before .before .before .close-of .ensures xs k) (sym (c .before .before .before .before .top-is .ensures) ∙ c .before .before .before .if1 .taken)
 
 leave-to-requires-2 : tie.Need-leave-to-requires-2
 leave-to-requires-2 c κs = search needs

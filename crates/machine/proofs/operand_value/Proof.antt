@@ -6,8 +6,8 @@ use Rattle.machine.proofs.operand_value.Tie as tie
 enum-known-x : tie.Need-enum-known-x
 enum-known-x c = search needs
 
-slot-of-requires : tie.Need-slot-of-requires
-slot-of-requires c κs = search needs
+cell-at-requires : tie.Need-cell-at-requires
+cell-at-requires c κs = search needs
 
 cell-value-requires : tie.Need-cell-value-requires
 cell-value-requires c κs = search needs
@@ -16,7 +16,7 @@ enum-known-x-2 : tie.Need-enum-known-x-2
 enum-known-x-2 c = search needs
 
 returns : tie.Need-returns
-returns c = c .cell-value .ensures ∙ rw (c .before .slot-of .ensures, c .before .before .before .x .given .1)
+returns c = c .cell-value .ensures ∙ rw (c .before .cell-at .ensures, c .before .before .before .x .given .1)
 
 returns-2 : tie.Need-returns-2
 returns-2 c = search needs
@@ -24,4 +24,4 @@ returns-2 c = search needs
 pub operand-value-spec : {M : Type 1} → statement M
 operand-value-spec =
     tie.close
-    (tie.spec enum-known-x slot-of-requires cell-value-requires enum-known-x-2 returns returns-2)
+    (tie.spec enum-known-x cell-at-requires cell-value-requires enum-known-x-2 returns returns-2)

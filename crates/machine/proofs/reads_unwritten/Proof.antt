@@ -1,6 +1,6 @@
 use Rattle.machine.proofs.Names.{missing-row}
 use Rattle.table.specs.Uses.{allWants}
-use Rattle.machine.specs.Meaning.{slotsOf}
+use Rattle.machine.specs.Meaning.{cellsOf}
 use mathlib.Core.Path.{_∙_}
 use borrow.Author.Needs.{needs}
 use Rattle.machine.proofs.reads_unwritten.Statement.{statement}
@@ -13,7 +13,7 @@ any-missing-requires : tie.Need-any-missing-requires
 any-missing-requires c κs = search needs
 
 returns : tie.Need-returns
-returns c = c .any-missing .ensures ∙ missing-row (slotsOf (c .before .before .args .m .vars)) (c .before .written-names .result) (allWants (c .before .before .args .ws)) (c .before .written-names .ensures)
+returns c = c .any-missing .ensures ∙ missing-row (cellsOf (c .before .before .args .m .vars)) (c .before .written-names .result) (allWants (c .before .before .args .ws)) (c .before .written-names .ensures)
 
 pub reads-unwritten-spec : {M : Type 1} → statement M
 reads-unwritten-spec = tie.close (tie.spec written-names-requires any-missing-requires returns)

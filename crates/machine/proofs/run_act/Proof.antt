@@ -18,8 +18,8 @@ go-writing-requires c κs = search needs
 enum-known-a-2 : tie.Need-enum-known-a-2
 enum-known-a-2 c = search needs
 
-slot-of-requires : tie.Need-slot-of-requires
-slot-of-requires c κs = search needs
+cell-at-requires : tie.Need-cell-at-requires
+cell-at-requires c κs = search needs
 
 go-writing-requires-2 : tie.Need-go-writing-requires-2
 go-writing-requires-2 c κs = search needs
@@ -109,7 +109,7 @@ returns-2 : tie.Need-returns-2
 returns-2 c = c .go-writing .ensures ∙ simp (c .before .before .a .given .1)
 
 returns-3 : tie.Need-returns-3
-returns-3 c = c .go-writing2 .ensures ∙ simp (c .before .slot-of .ensures, c .before .before .before .a2 .given .1)
+returns-3 c = c .go-writing2 .ensures ∙ simp (c .before .cell-at .ensures, c .before .before .before .a2 .given .1)
 
 returns-4 : tie.Need-returns-4
 returns-4 c = c .run-calc .ensures ∙ simp (c .before .before .a3 .given .1)
@@ -148,7 +148,7 @@ pub run-act-spec : {M : Type 1} → statement M
 run-act-spec =
     tie.close
     (tie.spec
-    enum-told go-quietly-requires enum-known-a go-writing-requires enum-known-a-2 slot-of-requires
+    enum-told go-quietly-requires enum-known-a go-writing-requires enum-known-a-2 cell-at-requires
     go-writing-requires-2 enum-known-a-3 run-calc-requires enum-known-a-4 reading-of-requires
     keep-result-requires enum-known-a-5 reading-of-requires-2 keep-result-requires-2 enum-known-a-6
     go-saying-requires enum-known-a-7 operand-value-requires go-saying-requires-2 enum-known-a-8

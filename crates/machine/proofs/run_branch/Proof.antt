@@ -8,11 +8,11 @@ use borrow.Author.Needs.{needs}
 use Rattle.machine.proofs.run_branch.Statement.{statement}
 use Rattle.machine.proofs.run_branch.Tie as tie
 
-broke-by-requires : tie.Need-broke-by-requires
-broke-by-requires c κs = search needs
+fault-by-requires : tie.Need-fault-by-requires
+fault-by-requires c κs = search needs
 
 returns : tie.Need-returns
-returns c = λ xs k. c .broke-by .ensures ∙ rw (c .before .if1 .taken)
+returns c = λ xs k. c .fault-by .ensures ∙ rw (c .before .if1 .taken)
 
 sub-p : tie.Need-sub-p
 sub-p c = search needs
@@ -36,11 +36,11 @@ answered-requires : tie.Need-answered-requires
 answered-requires c κs = search needs
 
 returns-2 : tie.Need-returns-2
-returns-2 c = λ xs k. c .answered .ensures ∙ ap (λ (x : Run). said [] x) (c .before .go-to .ensures ∙ ap (λ (x : Run). goto x (c .before .before .before .close-of .result) (x .opened)) (c .before .before .pop-box .ensures)) ∙ rw (tops-top (c .before .before .before .before .before .before .args .t2 .boxes) (c .before .before .before .before .before .before .args .t2 .depth) (c .before .before .before .before .before .if1 .left), c .before .before .before .close-of .ensures xs k)
+returns-2 c = λ xs k. c .answered .ensures ∙ ap (λ (x : Run). said [] x) (c .before .go-to .ensures ∙ ap (λ (x : Run). goto x (c .before .before .before .close-of .result) (x .boxes)) (c .before .before .pop-box .ensures)) ∙ rw (tops-top (c .before .before .before .before .before .before .args .t2 .boxes) (c .before .before .before .before .before .before .args .t2 .depth) (c .before .before .before .before .before .if1 .left), c .before .before .before .close-of .ensures xs k)
 
 pub run-branch-spec : {M : Type 1} → statement M
 run-branch-spec =
     tie.close
     (tie.spec
-    broke-by-requires returns sub-p mul-p element-copy-out-p close-of-requires pop-box-requires
+    fault-by-requires returns sub-p mul-p element-copy-out-p close-of-requires pop-box-requires
     go-to-requires answered-requires returns-2)

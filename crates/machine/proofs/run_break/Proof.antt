@@ -12,11 +12,11 @@ use Rattle.machine.proofs.run_break.Tie as tie
 loop-depth-requires : tie.Need-loop-depth-requires
 loop-depth-requires c κs = few-depth (c .args .t2) (c .pre)
 
-broke-by-requires : tie.Need-broke-by-requires
-broke-by-requires c κs = search needs
+fault-by-requires : tie.Need-fault-by-requires
+fault-by-requires c κs = search needs
 
 returns : tie.Need-returns
-returns c = λ xs k. c .broke-by .ensures ∙ rw (c .before .before .loop-depth .ensures .1 xs k, c .before .if1 .taken)
+returns c = λ xs k. c .fault-by .ensures ∙ rw (c .before .before .loop-depth .ensures .1 xs k, c .before .if1 .taken)
 
 sub-p : tie.Need-sub-p
 sub-p c = search needs
@@ -52,12 +52,12 @@ handing-requires : tie.Need-handing-requires
 handing-requires c κs = search needs
 
 returns-2 : tie.Need-returns-2
-returns-2 c = λ xs k. c .handing .ensures ∙ ap (λ (x : Run). said (handedOf (c .before .before .before .leave-one .result)) x) (c .before .leave-to .ensures ∙ ap (λ (x : Run). unskip (c .before .before .before .before .before .sweep-at .result) (goto x (c .before .before .before .before .before .before .close-of .result) (x .opened))) (c .before .before .cut-boxes .ensures)) ∙ rw (c .before .before .before .before .before .before .before .before .before .loop-depth .ensures .1 xs k, tops-top (c .before .before .before .before .before .before .before .before .before .before .args .t2 .boxes) (c .before .before .before .before .before .before .before .before .before .loop-depth .result) (c .before .before .before .before .before .before .before .before .if1 .left), c .before .before .before .leave-one .ensures .1 xs k, c .before .before .before .before .none-handed .ensures .0, c .before .before .before .before .before .sweep-at .ensures xs k, c .before .before .before .before .before .before .close-of .ensures xs k)
+returns-2 c = λ xs k. c .handing .ensures ∙ ap (λ (x : Run). said (handedOf (c .before .before .before .leave-one .result)) x) (c .before .leave-to .ensures ∙ ap (λ (x : Run). unskip (c .before .before .before .before .before .sweep-at .result) (goto x (c .before .before .before .before .before .before .close-of .result) (x .boxes))) (c .before .before .cut-boxes .ensures)) ∙ rw (c .before .before .before .before .before .before .before .before .before .loop-depth .ensures .1 xs k, tops-top (c .before .before .before .before .before .before .before .before .before .before .args .t2 .boxes) (c .before .before .before .before .before .before .before .before .before .loop-depth .result) (c .before .before .before .before .before .before .before .before .if1 .left), c .before .before .before .leave-one .ensures .1 xs k, c .before .before .before .before .none-handed .ensures .0, c .before .before .before .before .before .sweep-at .ensures xs k, c .before .before .before .before .before .before .close-of .ensures xs k)
 
 pub run-break-spec : {M : Type 1} → statement M
 run-break-spec =
     tie.close
     (tie.spec
-    loop-depth-requires broke-by-requires returns sub-p mul-p element-copy-out-p close-of-requires
+    loop-depth-requires fault-by-requires returns sub-p mul-p element-copy-out-p close-of-requires
     sweep-at-requires none-handed-requires leave-one-requires sub-cut-boxes cut-boxes-requires
     leave-to-requires handing-requires returns-2)

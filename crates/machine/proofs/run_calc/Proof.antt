@@ -3,8 +3,8 @@ use borrow.Author.Needs.{needs}
 use Rattle.machine.proofs.run_calc.Statement.{statement}
 use Rattle.machine.proofs.run_calc.Tie as tie
 
-slot-of-requires : tie.Need-slot-of-requires
-slot-of-requires c κs = search needs
+cell-at-requires : tie.Need-cell-at-requires
+cell-at-requires c κs = search needs
 
 cell-type-requires : tie.Need-cell-type-requires
 cell-type-requires c κs = search needs
@@ -22,11 +22,11 @@ keep-result-requires : tie.Need-keep-result-requires
 keep-result-requires c κs = search needs
 
 returns : tie.Need-returns
-returns c = c .keep-result .ensures ∙ simp (c .before .calculate .ensures, c .before .before .operand-value .ensures, c .before .before .before .cell-value .ensures, c .before .before .before .before .cell-type .ensures, c .before .before .before .before .before .slot-of .ensures)
+returns c = c .keep-result .ensures ∙ simp (c .before .calculate .ensures, c .before .before .operand-value .ensures, c .before .before .before .cell-value .ensures, c .before .before .before .before .cell-type .ensures, c .before .before .before .before .before .cell-at .ensures)
 
 pub run-calc-spec : {M : Type 1} → statement M
 run-calc-spec =
     tie.close
     (tie.spec
-    slot-of-requires cell-type-requires cell-value-requires operand-value-requires
+    cell-at-requires cell-type-requires cell-value-requires operand-value-requires
     calculate-requires keep-result-requires returns)

@@ -30,21 +30,21 @@ answered-requires-2 c κs = search needs
 enum-known-c-3 : tie.Need-enum-known-c-3
 enum-known-c-3 c = search needs
 
-broke-by-requires : tie.Need-broke-by-requires
-broke-by-requires c κs = search needs
+fault-by-requires : tie.Need-fault-by-requires
+fault-by-requires c κs = search needs
 
 returns : tie.Need-returns
-returns c = c .answered .ensures ∙ ap (λ (x : Run). said [] x) (c .before .go-to .ensures ∙ ap (λ (x : Run). goto x (c .before .before .before .before .c .given .0 .0) (x .opened)) (c .before .before .push-box .ensures)) ∙ simp (c .before .before .before .before .c .given .1)
+returns c = c .answered .ensures ∙ ap (λ (x : Run). said [] x) (c .before .go-to .ensures ∙ ap (λ (x : Run). goto x (c .before .before .before .before .c .given .0 .0) (x .boxes)) (c .before .before .push-box .ensures)) ∙ simp (c .before .before .before .before .c .given .1)
 
 returns-2 : tie.Need-returns-2
 returns-2 c = c .answered2 .ensures ∙ ap (λ (x : Run). said [] x) (c .before .go-to2 .ensures) ∙ simp (c .before .before .before .c2 .given .1)
 
 returns-3 : tie.Need-returns-3
-returns-3 c = c .broke-by .ensures ∙ simp (c .before .before .c3 .given .1)
+returns-3 c = c .fault-by .ensures ∙ simp (c .before .before .c3 .given .1)
 
 pub run-chosen-spec : {M : Type 1} → statement M
 run-chosen-spec =
     tie.close
     (tie.spec
     enum-known-c push-box-requires go-to-requires answered-requires enum-known-c-2 go-to-requires-2
-    answered-requires-2 enum-known-c-3 broke-by-requires returns returns-2 returns-3)
+    answered-requires-2 enum-known-c-3 fault-by-requires returns returns-2 returns-3)

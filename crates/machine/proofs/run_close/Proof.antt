@@ -8,11 +8,11 @@ use borrow.Author.Needs.{needs}
 use Rattle.machine.proofs.run_close.Statement.{statement}
 use Rattle.machine.proofs.run_close.Tie as tie
 
-broke-by-requires : tie.Need-broke-by-requires
-broke-by-requires c κs = search needs
+fault-by-requires : tie.Need-fault-by-requires
+fault-by-requires c κs = search needs
 
 returns : tie.Need-returns
-returns c = λ xs k. c .broke-by .ensures ∙ rw (c .before .if1 .taken)
+returns c = λ xs k. c .fault-by .ensures ∙ rw (c .before .if1 .taken)
 
 sub-p : tie.Need-sub-p
 sub-p c = search needs
@@ -30,7 +30,7 @@ pop-box-requires : tie.Need-pop-box-requires
 pop-box-requires c κs = search needs
 
 go-quietly-requires : tie.Need-go-quietly-requires
-go-quietly-requires c κs = omega (arith, ap (λ (x : Run). x .pc) (c .pop-box .ensures), c .before .before .before .before .before .pre .within)
+go-quietly-requires c κs = omega (arith, ap (λ (x : Run). x .at) (c .pop-box .ensures), c .before .before .before .before .before .pre .within)
 
 enum-told-2 : tie.Need-enum-told-2
 enum-told-2 c = search needs
@@ -48,5 +48,5 @@ pub run-close-spec : {M : Type 1} → statement M
 run-close-spec =
     tie.close
     (tie.spec
-    broke-by-requires returns sub-p mul-p element-copy-out-p enum-told pop-box-requires
+    fault-by-requires returns sub-p mul-p element-copy-out-p enum-told pop-box-requires
     go-quietly-requires enum-told-2 run-endloop-requires returns-2 returns-3)

@@ -7,17 +7,17 @@ use borrow.Author.Needs.{needs}
 use Rattle.machine.proofs.run_end.Statement.{statement}
 use Rattle.machine.proofs.run_end.Tie as tie
 
-broke-by-requires : tie.Need-broke-by-requires
-broke-by-requires c κs = search needs
+fault-by-requires : tie.Need-fault-by-requires
+fault-by-requires c κs = search needs
 
 returns : tie.Need-returns
-returns c = c .broke-by .ensures ∙ rw (tops-top (c .before .before .args .m .boxes) (c .before .before .args .m .depth) (c .before .if1 .taken))
+returns c = c .fault-by .ensures ∙ rw (tops-top (c .before .before .args .m .boxes) (c .before .before .args .m .depth) (c .before .if1 .taken))
 
-broke-by-requires-2 : tie.Need-broke-by-requires-2
-broke-by-requires-2 c κs = search needs
+fault-by-requires-2 : tie.Need-fault-by-requires-2
+fault-by-requires-2 c κs = search needs
 
 returns-2 : tie.Need-returns-2
-returns-2 c = c .broke-by2 .ensures ∙ rw (c .before .before .if1 .left, c .before .if2 .taken)
+returns-2 c = c .fault-by2 .ensures ∙ rw (c .before .before .if1 .left, c .before .if2 .taken)
 
 none-handed-requires : tie.Need-none-handed-requires
 none-handed-requires c κs = search needs
@@ -32,5 +32,5 @@ pub run-end-spec : {M : Type 1} → statement M
 run-end-spec =
     tie.close
     (tie.spec
-    broke-by-requires returns broke-by-requires-2 returns-2 none-handed-requires finish-run-requires
+    fault-by-requires returns fault-by-requires-2 returns-2 none-handed-requires finish-run-requires
     returns-3)

@@ -26,7 +26,7 @@ hand-out-requires : tie.Need-hand-out-requires
 hand-out-requires c κs = search needs
 
 returns : tie.Need-returns
-returns c = λ xs k. c .hand-out .ensures ∙ ap (λ (x : Run). said (leaves sweepBox ∷ []) x) (c .before .leave-to .ensures ∙ ap (λ (x : Run). unskip true (goto x (c .before .before .before .before .before .args .m .at + 1) (x .opened))) (c .before .before .pop-box .ensures)) ∙ rw (sym (c .before .before .before .before .leaves-sweep .ensures xs k) ∙ c .before .before .before .if1 .taken, add-one)
+returns c = λ xs k. c .hand-out .ensures ∙ ap (λ (x : Run). said (leaves sweepBox ∷ []) x) (c .before .leave-to .ensures ∙ ap (λ (x : Run). unskip true (goto x (c .before .before .before .before .before .args .m .at + 1) (x .boxes))) (c .before .before .pop-box .ensures)) ∙ rw (sym (c .before .before .before .before .leaves-sweep .ensures xs k) ∙ c .before .before .before .if1 .taken, add-one)
 
 go-to-requires : tie.Need-go-to-requires
 go-to-requires c κs = search needs

@@ -14,20 +14,20 @@ use Rattle.machine.proofs.run_point.Tie as tie
 is-finite-requires : tie.Need-is-finite-requires
 is-finite-requires c κs = search needs
 
-halt-by-requires : tie.Need-halt-by-requires
-halt-by-requires c κs = search needs
+stop-by-requires : tie.Need-stop-by-requires
+stop-by-requires c κs = search needs
 
 returns : tie.Need-returns
-returns c = c .halt-by .ensures ∙ point-first (runOf (c .before .before .before .args .m)) (c .before .before .before .args .w) (c .before .before .before .args .p .potential) (c .before .before .before .args .p .current) (sym (c .before .before .is-finite .ensures) ∙ not-true _ (c .before .if1 .taken))
+returns c = c .stop-by .ensures ∙ point-first (runOf (c .before .before .before .args .m)) (c .before .before .before .args .w) (c .before .before .before .args .p .potential) (c .before .before .before .args .p .current) (sym (c .before .before .is-finite .ensures) ∙ not-true _ (c .before .if1 .taken))
 
 is-finite-requires-2 : tie.Need-is-finite-requires-2
 is-finite-requires-2 c κs = search needs
 
-halt-by-requires-2 : tie.Need-halt-by-requires-2
-halt-by-requires-2 c κs = search needs
+stop-by-requires-2 : tie.Need-stop-by-requires-2
+stop-by-requires-2 c κs = search needs
 
 returns-2 : tie.Need-returns-2
-returns-2 c = c .halt-by2 .ensures ∙ point-second (runOf (c .before .before .before .before .before .args .m)) (c .before .before .before .before .before .args .w) (c .before .before .before .before .before .args .p .potential) (c .before .before .before .before .before .args .p .current) (sym (c .before .before .is-finite2 .ensures) ∙ not-true _ (c .before .if2 .taken))
+returns-2 c = c .stop-by2 .ensures ∙ point-second (runOf (c .before .before .before .before .before .args .m)) (c .before .before .before .before .before .args .w) (c .before .before .before .before .before .args .p .potential) (c .before .before .before .before .before .args .p .current) (sym (c .before .before .is-finite2 .ensures) ∙ not-true _ (c .before .if2 .taken))
 
 write-point-requires : tie.Need-write-point-requires
 write-point-requires c κs = search needs
@@ -42,5 +42,5 @@ pub run-point-spec : {M : Type 1} → statement M
 run-point-spec =
     tie.close
     (tie.spec
-    is-finite-requires halt-by-requires returns is-finite-requires-2 halt-by-requires-2 returns-2
+    is-finite-requires stop-by-requires returns is-finite-requires-2 stop-by-requires-2 returns-2
     write-point-requires enter-loop-requires returns-3)

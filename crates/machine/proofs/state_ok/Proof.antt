@@ -17,12 +17,12 @@ opens-ok-requires c κs = search needs
 returns-3 : tie.Need-returns-3
 returns-3 c = λ xs k e. rw (e, le-leb (c .before .before .before .before .args .m .at) (c .before .before .before .before .args .n) (c .before .before .before .if1 .left), tops-length (c .before .before .before .before .args .m .boxes) (c .before .before .before .before .args .m .depth), le-leb (c .before .before .before .before .args .m .depth) 8 (c .before .before .if2 .left), sym (c .before .opens-ok .ensures xs k e) ∙ not-true (c .before .opens-ok .result) (c .if3 .taken))
 
-slots-ok-requires : tie.Need-slots-ok-requires
-slots-ok-requires c κs = search needs
+cells-ok-requires : tie.Need-cells-ok-requires
+cells-ok-requires c κs = search needs
 
 returns-4 : tie.Need-returns-4
-returns-4 c = λ xs k e. c .slots-ok .ensures ∙ rw (e, le-leb (c .before .before .before .before .before .args .m .at) (c .before .before .before .before .before .args .n) (c .before .before .before .before .if1 .left), tops-length (c .before .before .before .before .before .args .m .boxes) (c .before .before .before .before .before .args .m .depth), le-leb (c .before .before .before .before .before .args .m .depth) 8 (c .before .before .before .if2 .left), sym (c .before .before .opens-ok .ensures xs k e) ∙ not-false (c .before .before .opens-ok .result) (c .before .if3 .left))
+returns-4 c = λ xs k e. c .cells-ok .ensures ∙ rw (e, le-leb (c .before .before .before .before .before .args .m .at) (c .before .before .before .before .before .args .n) (c .before .before .before .before .if1 .left), tops-length (c .before .before .before .before .before .args .m .boxes) (c .before .before .before .before .before .args .m .depth), le-leb (c .before .before .before .before .before .args .m .depth) 8 (c .before .before .before .if2 .left), sym (c .before .before .opens-ok .ensures xs k e) ∙ not-false (c .before .before .opens-ok .result) (c .before .if3 .left))
 
 pub state-ok-spec : {M : Type 1} → statement M
 state-ok-spec =
-    tie.close (tie.spec returns returns-2 opens-ok-requires returns-3 slots-ok-requires returns-4)
+    tie.close (tie.spec returns returns-2 opens-ok-requires returns-3 cells-ok-requires returns-4)

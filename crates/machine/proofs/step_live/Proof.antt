@@ -19,7 +19,7 @@ take-control-requires : tie.Need-take-control-requires
 take-control-requires c κs = search needs
 
 step-moved-requires : tie.Need-step-moved-requires
-step-moved-requires c κs = (subst (λ (x : Run). Stands x) (sym (c .take-control .ensures)) (told-stands (c .before .any-sweep .result) (runOf (c .before .before .args .m)) (c .before .before .args .c) (c .before .before .pre .0)), c .before .before .pre .1, c .before .before .pre .2, c .before .any-sweep .ensures (itemsOf (c .before .before .args .script)) (c .before .before .pre .2) ∙ ap (λ (ps : List ℕ). anyOpen isSweep (itemsOf (c .before .before .args .script)) ps) (sym (ap (λ (x : Run). x .opened) (c .take-control .ensures) ∙ told-open (c .before .any-sweep .result) (runOf (c .before .before .args .m)) (c .before .before .args .c))))
+step-moved-requires c κs = (subst (λ (x : Run). Stands x) (sym (c .take-control .ensures)) (told-stands (c .before .any-sweep .result) (runOf (c .before .before .args .m)) (c .before .before .args .c) (c .before .before .pre .0)), c .before .before .pre .1, c .before .before .pre .2, c .before .any-sweep .ensures (itemsOf (c .before .before .args .script)) (c .before .before .pre .2) ∙ ap (λ (ps : List ℕ). anyOpen isSweep (itemsOf (c .before .before .args .script)) ps) (sym (ap (λ (x : Run). x .boxes) (c .take-control .ensures) ∙ told-open (c .before .any-sweep .result) (runOf (c .before .before .args .m)) (c .before .before .args .c))))
 
 returns : tie.Need-returns
 returns c = c .step-moved .ensures ∙ ap (λ (x : Run). moved (itemsOf (c .before .before .before .args .script)) (runOf (c .before .before .before .args .m)) x (c .before .before .before .args .o)) (c .before .take-control .ensures ∙ told-is (itemsOf (c .before .before .before .args .script)) (runOf (c .before .before .before .args .m)) (c .before .before .any-sweep .result) (c .before .before .before .args .c) (c .before .before .any-sweep .ensures (itemsOf (c .before .before .before .args .script)) (c .before .before .before .pre .2)))

@@ -1,4 +1,4 @@
-use Rattle.machine.specs.Meaning.{slotsOf}
+use Rattle.machine.specs.Meaning.{cellsOf}
 use Rattle.machine.proofs.Chain.{tried-bad, tried-into, tried-next}
 use Rattle.machine.specs.Code.{troubleOf, triedBy}
 use native.Mathlib.Numerals.{add-one}
@@ -23,13 +23,13 @@ add-t10 : tie.Need-add-t10
 add-t10 c = search needs
 
 returns : tie.Need-returns
-returns c = λ o. tried-bad (slotsOf (c .before .before .before .before .args .m .vars)) (c .before .before .before .before .args .c) (c .before .before .before .before .args .j) o (c .before .t .given .0 .0) (sym (c .before .before .before .condition-faults .ensures) ∙ ap troubleOf (c .before .t .given .1))
+returns c = λ o. tried-bad (cellsOf (c .before .before .before .before .args .m .vars)) (c .before .before .before .before .args .c) (c .before .before .before .before .args .j) o (c .before .t .given .0 .0) (sym (c .before .before .before .condition-faults .ensures) ∙ ap troubleOf (c .before .t .given .1))
 
 returns-2 : tie.Need-returns-2
-returns-2 c = λ o. tried-into (slotsOf (c .before .before .before .before .before .args .m .vars)) (c .before .before .before .before .before .args .c) (c .before .before .before .before .before .args .j) o (sym (c .before .before .before .before .condition-faults .ensures) ∙ ap troubleOf (c .before .before .enum-told .given .1)) (sym (c .before .condition-holds .ensures) ∙ c .if1 .taken)
+returns-2 c = λ o. tried-into (cellsOf (c .before .before .before .before .before .args .m .vars)) (c .before .before .before .before .before .args .c) (c .before .before .before .before .before .args .j) o (sym (c .before .before .before .before .condition-faults .ensures) ∙ ap troubleOf (c .before .before .enum-told .given .1)) (sym (c .before .condition-holds .ensures) ∙ c .if1 .taken)
 
 returns-3 : tie.Need-returns-3
-returns-3 c = λ o. tried-next (slotsOf (c .before .before .before .before .before .args .m .vars)) (c .before .before .before .before .before .args .c) (c .before .before .before .before .before .args .j) o (sym (c .before .before .before .before .condition-faults .ensures) ∙ ap troubleOf (c .before .before .enum-told .given .1)) (sym (c .before .condition-holds .ensures) ∙ c .if1 .left)
+returns-3 c = λ o. tried-next (cellsOf (c .before .before .before .before .before .args .m .vars)) (c .before .before .before .before .before .args .c) (c .before .before .before .before .before .args .j) o (sym (c .before .before .before .before .condition-faults .ensures) ∙ ap troubleOf (c .before .before .enum-told .given .1)) (sym (c .before .condition-holds .ensures) ∙ c .if1 .left)
 
 pub try-condition-spec : {M : Type 1} → statement M
 try-condition-spec =

@@ -1,4 +1,4 @@
-use Rattle.machine.proofs.Steps.{broke-is}
+use Rattle.machine.proofs.Steps.{faults-by-is}
 use mathlib.Core.Path.{sym, ap, _∙_}
 use borrow.Author.Needs.{needs}
 use Rattle.machine.proofs.try_item.Statement.{statement}
@@ -19,8 +19,8 @@ serve-item-requires-2 c κs = search needs
 enum-known-c : tie.Need-enum-known-c
 enum-known-c c = search needs
 
-broke-by-requires : tie.Need-broke-by-requires
-broke-by-requires c κs = search needs
+fault-by-requires : tie.Need-fault-by-requires
+fault-by-requires c κs = search needs
 
 returns : tie.Need-returns
 returns c = λ xs k e. c .serve-item .ensures xs k e ∙ rw (c .before .enum-told .given .1)
@@ -29,11 +29,11 @@ returns-2 : tie.Need-returns-2
 returns-2 c = λ xs k e. c .serve-item2 .ensures xs k e ∙ rw (c .before .enum-told2 .given .1)
 
 returns-3 : tie.Need-returns-3
-returns-3 c = λ xs k e. c .broke-by .ensures ∙ rw (c .before .before .c .given .1) (broke-is (c .before .before .c .given .0 .0) _ _)
+returns-3 c = λ xs k e. c .fault-by .ensures ∙ rw (c .before .before .c .given .1) (faults-by-is (c .before .before .c .given .0 .0) _ _)
 
 pub try-item-spec : {M : Type 1} → statement M
 try-item-spec =
     tie.close
     (tie.spec
-    enum-told serve-item-requires enum-told-2 serve-item-requires-2 enum-known-c broke-by-requires
+    enum-told serve-item-requires enum-told-2 serve-item-requires-2 enum-known-c fault-by-requires
     returns returns-2 returns-3)

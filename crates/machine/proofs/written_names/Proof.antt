@@ -1,6 +1,6 @@
 use Rattle.machine.proofs.Names.{said-start, said-more, said-end}
-use Rattle.machine.specs.Meaning.{slotsOf}
-use Rattle.machine.specs.Machine.{isSet}
+use Rattle.machine.specs.Meaning.{cellsOf}
+use Rattle.machine.specs.Machine.{isWritten}
 use borrow.Author.Needs.{needs}
 use native.Mathlib.Omega.{arith}
 use lib.Seq.{sets}
@@ -12,13 +12,13 @@ use Rattle.machine.proofs.written_names.Statement.{statement}
 use Rattle.machine.proofs.written_names.Tie as tie
 
 abbrev Inv-loop : tie.InvT-loop
-Inv-loop m t₀ i₀ t i = (i ≤ 32) × (length t ≡ 32) × (sets t i (drop i (map isSet (slotsOf (m .vars)))) ≡ map isSet (slotsOf (m .vars)))
+Inv-loop m t₀ i₀ t i = (i ≤ 32) × (length t ≡ 32) × (sets t i (drop i (map isWritten (cellsOf (m .vars)))) ≡ map isWritten (cellsOf (m .vars)))
 
 abbrev μ-loop : tie.MeasureT-loop
 μ-loop m t₀ i₀ t i = 32 - i
 
 loop-holds : tie.Need-loop-holds Inv-loop μ-loop
-loop-holds c = (omega arith, refl, said-start isSet (c .args .t1 .vars) _ (omega (arith, simp length-map at (c .good .0 .1 .1 .1 .1 .1 .0 .1 .0 .1))))
+loop-holds c = (omega arith, refl, said-start isWritten (c .args .t1 .vars) _ (omega (arith, simp length-map at (c .good .0 .1 .1 .1 .1 .1 .0 .1 .0 .1))))
 
 mul-v : tie.Need-mul-v Inv-loop μ-loop
 mul-v c = search needs
@@ -26,8 +26,8 @@ mul-v c = search needs
 element-copy-out-v : tie.Need-element-copy-out-v Inv-loop μ-loop
 element-copy-out-v c = search needs
 
-cell-set-requires : tie.Need-cell-set-requires Inv-loop μ-loop
-cell-set-requires c κs = search needs
+is-written-requires : tie.Need-is-written-requires Inv-loop μ-loop
+is-written-requires c κs = search needs
 
 array-write-t : tie.Need-array-write-t Inv-loop μ-loop
 array-write-t c = search needs
@@ -39,14 +39,14 @@ loop-less : tie.Need-loop-less Inv-loop μ-loop
 loop-less c = search needs
 
 loop-again : tie.Need-loop-again Inv-loop μ-loop
-loop-again c = (search needs, simp length-set (c .before .before .before .loop .inv .1), rw (c .cell-set .ensures) (sym (said-more isSet (c .before .before .before .before .args .t1 .vars) (c .before .before .before .loop .t) (c .before .before .before .loop .i) (omega (arith, simp length-map at (c .before .before .before .before .good .0 .1 .1 .1 .1 .1 .0 .1 .0 .1), c .before .before .loop-test .taken))) ∙ c .before .before .before .loop .inv .2))
+loop-again c = (search needs, simp length-set (c .before .before .before .loop .inv .1), rw (c .is-written .ensures) (sym (said-more isWritten (c .before .before .before .before .args .t1 .vars) (c .before .before .before .loop .t) (c .before .before .before .loop .i) (omega (arith, simp length-map at (c .before .before .before .before .good .0 .1 .1 .1 .1 .1 .0 .1 .0 .1), c .before .before .loop-test .taken))) ∙ c .before .before .before .loop .inv .2))
 
 returns : tie.Need-returns Inv-loop μ-loop
-returns c = sym (said-end isSet (c .before .before .args .t1 .vars) (c .before .loop .t) (c .before .loop .i) (omega (arith, simp length-map at (c .before .before .good .0 .1 .1 .1 .1 .1 .0 .1 .0 .1), c .loop-test .left))) ∙ c .before .loop .inv .2
+returns c = sym (said-end isWritten (c .before .before .args .t1 .vars) (c .before .loop .t) (c .before .loop .i) (omega (arith, simp length-map at (c .before .before .good .0 .1 .1 .1 .1 .1 .0 .1 .0 .1), c .loop-test .left))) ∙ c .before .loop .inv .2
 
 pub written-names-spec : {M : Type 1} → statement M
 written-names-spec =
     tie.close
     (tie.spec
-    Inv-loop μ-loop loop-holds mul-v element-copy-out-v cell-set-requires array-write-t add-i
+    Inv-loop μ-loop loop-holds mul-v element-copy-out-v is-written-requires array-write-t add-i
     loop-less loop-again returns)

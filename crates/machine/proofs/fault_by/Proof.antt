@@ -1,7 +1,7 @@
 use mathlib.Core.Path.{_∙_}
 use borrow.Author.Needs.{needs}
-use Rattle.machine.proofs.halt_by.Statement.{statement}
-use Rattle.machine.proofs.halt_by.Tie as tie
+use Rattle.machine.proofs.fault_by.Statement.{statement}
+use Rattle.machine.proofs.fault_by.Tie as tie
 
 with-status-requires : tie.Need-with-status-requires
 with-status-requires c κs = search needs
@@ -12,5 +12,5 @@ answered-requires c κs = search needs
 returns : tie.Need-returns
 returns c = c .answered .ensures ∙ rw (c .before .with-status .ensures)
 
-pub halt-by-spec : {M : Type 1} → statement M
-halt-by-spec = tie.close (tie.spec with-status-requires answered-requires returns)
+pub fault-by-spec : {M : Type 1} → statement M
+fault-by-spec = tie.close (tie.spec with-status-requires answered-requires returns)

@@ -1,7 +1,7 @@
 use mathlib.Core.Path.{_∙_}
 use borrow.Author.Needs.{needs}
-use Rattle.machine.proofs.broke_by.Statement.{statement}
-use Rattle.machine.proofs.broke_by.Tie as tie
+use Rattle.machine.proofs.stop_by.Statement.{statement}
+use Rattle.machine.proofs.stop_by.Tie as tie
 
 with-status-requires : tie.Need-with-status-requires
 with-status-requires c κs = search needs
@@ -12,5 +12,5 @@ answered-requires c κs = search needs
 returns : tie.Need-returns
 returns c = c .answered .ensures ∙ rw (c .before .with-status .ensures)
 
-pub broke-by-spec : {M : Type 1} → statement M
-broke-by-spec = tie.close (tie.spec with-status-requires answered-requires returns)
+pub stop-by-spec : {M : Type 1} → statement M
+stop-by-spec = tie.close (tie.spec with-status-requires answered-requires returns)
