@@ -10,7 +10,7 @@ use Rattle.frame.specs.declared.InstrumentNumber.{InstrumentNumber}
 use Rattle.frame.specs.Answer.{Refusal, badContent, shortLine, wrongCrc, wrongNumber, shortBuffer, ReadFrame, WrittenFrame, numberOf, meaningRead, meaningWritten}
 use Rattle.frame.specs.declared.ReadFrame.the-variants as Read
 use Rattle.frame.specs.declared.WrittenFrame.the-variants as Write
-use Rattle.frame.specs.Frame.{Answer, refused, accepted, Written, leaves, next, read, write}
+use Rattle.frame.specs.Frame.{Answer, refused, accepted, Written, leaves, read, write}
 
 -- ---- a number tells the refusal, and what an answer says tells the answer
 
@@ -44,12 +44,6 @@ written-back (Write.Written k n) = refl
 written-back (Write.Refused r) = ap Write.Refused (named-back r)
 
 -- ---- the public functions
-
-pub only-host-number-next : (n x y : HostNumber) → x .0 ≡ next (n .0) → y .0 ≡ next (n .0) → x ≡ y
-only-host-number-next n x y h k = ap (λ (m : ℕ). record { 0 = m }) (h ∙ sym k)
-
-pub only-instrument-number-next : (n x y : InstrumentNumber) → x .0 ≡ next (n .0) → y .0 ≡ next (n .0) → x ≡ y
-only-instrument-number-next n x y h k = ap (λ (m : ℕ). record { 0 = m }) (h ∙ sym k)
 
 pub only-number : (r : Refusal) (x y : ℕ) → x ≡ numberOf r → y ≡ numberOf r → x ≡ y
 only-number r x y h k = h ∙ sym k

@@ -44,7 +44,7 @@ pub enum WrittenFrame {
 }
 
 impl HostNumber {
-    pub fn next(self) -> HostNumber
+    fn next(self) -> HostNumber
         ensures { λ r. ⌜ r .0 ≡ next (self .0) ⌝ }
     {
         HostNumber(std::num::wrapping_add_u8(self.0, 1))
@@ -52,7 +52,7 @@ impl HostNumber {
 }
 
 impl InstrumentNumber {
-    pub fn next(self) -> InstrumentNumber
+    fn next(self) -> InstrumentNumber
         ensures { λ r. ⌜ r .0 ≡ next (self .0) ⌝ }
     {
         InstrumentNumber(std::num::wrapping_add_u8(self.0, 1))

@@ -305,7 +305,7 @@ fn finite_float(x: f64) -> bool
     x - x == 0.0
 }
 
-pub fn is_zero(x: f64) -> bool
+fn is_zero(x: f64) -> bool
     ensures { λ r. ⌜ r ≡ isZero x ⌝ }
 {
     x == 0.0

@@ -153,7 +153,7 @@ pub fn pad(word: &[u8]) -> [u8; 16]
     b
 }
 
-pub fn same(a: [u8; 16], b: [u8; 16]) -> bool
+fn same(a: [u8; 16], b: [u8; 16]) -> bool
     ensures { λ r. ⌜ r ≡ sameBytes a b ⌝ }
 {
     let mut i: usize = 0;
