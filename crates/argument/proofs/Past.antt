@@ -1,15 +1,15 @@
 -- Past the end of a line stands an empty word. Assumes nothing.
-use mathlib.Core.Path.{_≡_, refl, sym, _∙_, ap, ap₂}
+use mathlib.Core.Path.{_≡_, sym, _∙_, ap, ap₂}
 use mathlib.Core.Bool.{false}
 use mathlib.Core.List.{List, [], _∷_}
-use Prim.Native.Nat.{ℕ, _+_, _-_, _≤_, _<_}
+use Prim.Native.Nat.{ℕ, _+_, _-_, _<_}
 use native.Mathlib.Omega.{arith}
 use lib.Seq.{take-nil}
-use lib.ListN.{length, take, drop, drop-of-length-le, length-drop, length-take}
+use lib.ListN.{length, take, drop, length-drop}
 use Rattle.word.proofs.Runs.{run-end}
 use Rattle.word.specs.declared.Class.the-variants.{Blank, Solid}
 use Rattle.word.specs.Word.{run, wordAt, part}
-use Rattle.argument.specs.Argument.{Form, Argument, Said, isText, said, stopped, saidAt}
+use Rattle.argument.specs.Argument.{Form, Argument, isText, said, stopped, saidAt}
 
 empty-take : (n : ℕ) (s : List ℕ) → length s ≡ 0 → take n s ≡ []
 empty-take n [] h = take-nil n

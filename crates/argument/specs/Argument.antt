@@ -2,7 +2,7 @@
 -- v is a name, x a name or literal, f a float x (its kind is judged later), t a type, n digits 0 to 255.
 use mathlib.Core.Bool.{Bool, true, false, cond}
 use mathlib.Core.List.{List, [], _∷_}
-use Prim.Native.Nat.{ℕ, _+_, _-_}
+use Prim.Native.Nat.{ℕ, _+_}
 use lib.Dec.{ltb, eqb}
 use lib.IntN.{pos}
 use lib.ListN.{length, drop, getD}
@@ -24,8 +24,9 @@ use Rattle.word.specs.declared.TypeName.{TypeName}
 use Rattle.word.specs.declared.TypeName.the-variants.{Letters as letters, Bad as noType}
 use Rattle.word.specs.declared.Small.{Small}
 use Rattle.word.specs.declared.Small.the-variants.{Number as number, Bad as noNumber}
-use Rattle.word.specs.Word.{run, wordAt, part, nameForm, readType, smallOf as readNumber, ascii, padded, seek}
-use Rattle.argument.specs.Refusal.{Refusal, numberOf, badArguments, undeclared, declaredTwice, tooManyNames}
+use Rattle.text.specs.Bytes.{ascii}
+use Rattle.word.specs.Word.{run, wordAt, part, nameForm, readType, smallOf as readNumber, padded, seek}
+use Rattle.argument.specs.Refusal.{numberOf, badArguments, undeclared, declaredTwice, tooManyNames}
 pub use Rattle.argument.specs.declared.Form.{Form}
 pub use Rattle.argument.specs.declared.Form.the-variants as F
 pub use Rattle.argument.specs.declared.Argument.{Argument}

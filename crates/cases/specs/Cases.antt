@@ -1,11 +1,11 @@
 -- 01, Cases by letter: A to L as one table of questions and answers.
 use mathlib.Core.Bool.{false}
-use mathlib.Core.List.{List, [], _∷_, map}
+use mathlib.Core.List.{List, [], _∷_}
 use Prim.Native.Nat.{ℕ}
 use Prim.Native.String.{String}
-use lib.IntN.{ℤ, pos, negsuc}
+use lib.IntN.{pos, negsuc}
 use lib.Ieee.{Float, fin}
-use Rattle.word.specs.Word.{ascii}
+use Rattle.text.specs.Bytes.{ascii}
 use Rattle.crc.specs.Crc.{crc}
 use Rattle.value.specs.declared.Literal.{Literal}
 use Rattle.value.specs.declared.Literal.the-variants as Literal
@@ -14,7 +14,6 @@ use Rattle.value.specs.Literal.{literal}
 use Rattle.package.specs.declared.Amount.{Amount}
 use Rattle.package.specs.declared.Amount.the-variants.{Number as number, Integer as integer}
 use Rattle.package.specs.declared.Metadatum.the-variants.{Missing as missing}
-use Rattle.package.specs.declared.Part.{Part}
 use Rattle.package.specs.Package.{Reading, parts, refused, packageOf}
 use Rattle.script.specs.Load.{Outcome, refusal, accepted, emptyScript, loaded}
 

@@ -1,21 +1,17 @@
 -- The register's shift is linear, so a table serves it; and it stays below 2 ^ 16. Assumes nothing.
-use mathlib.Core.Path.{_≡_, refl, sym, _∙_, ap, ap₂, subst}
-use mathlib.Core.Logic.{⊎-elim}
+use mathlib.Core.Path.{_≡_, refl, sym, _∙_, ap, ap₂}
 use mathlib.Core.Bool.{Bool, true, false, cond}
-use mathlib.Core.List.{List, [], _∷_, _++_}
-use Prim.Native.Nat.{ℕ, zero, suc, _+_, _-_, _*_, _/_, _%_, _^_, _≤_, _<_}
-use native.Mathlib.Nat.{mul-assoc, mul-comm, pow-suc, mul-le-mul-left, mul-one, le-trans, lt-of-le-of-lt, add-zero}
+use mathlib.Core.List.{List, [], _∷_}
+use Prim.Native.Nat.{ℕ, zero, suc, _+_, _*_, _/_, _%_, _^_, _≤_, _<_}
+use native.Mathlib.Nat.{mul-assoc, mul-comm, pow-suc, mul-le-mul-left, mul-one, add-zero}
 use native.Mathlib.Omega.{arith}
-use native.Mathlib.Decide.{decLt, decLe}
-use lib.Arith.{bin-ind, digits-mod}
+use native.Mathlib.Decide.{decLe}
+use lib.Arith.{bin-ind}
 use lib.Pow.{pow-pos}
 use lib.Bits.{bitXor, differ, xor-step, xor-self, xor-comm, xor-zero-l, xor-zero-r, xor-lt, xor-shifted, xor-block, xor-shr, xor-mod}
-use lib.Dec.{leb, T, ltb, ltb→lt}
-use lib.Pow.{areBytes}
-use lib.ListN.{length, getD, take, drop, length-drop}
-use lib.Seq.{split-at, drop-cons, ext-getD, length-take-le, getD-take, getD-drop}
+use lib.Dec.{leb}
 use borrow.Author.Tests.{le-leb, lt-leb}
-use Rattle.crc.specs.Crc.{moved, shift, shifts, step, crcFrom, crc}
+use Rattle.crc.specs.Crc.{moved, shift, shifts, step, crcFrom}
 
 -- ---- exclusive or: associative, and what it does is undone by doing it again
 

@@ -1,5 +1,4 @@
 -- 01, Frames: "CRC-16 with polynomial 1021 hex, start FFFF, most significant bit first, no final change". Assumes nothing.
-use mathlib.Core.Path.{_≡_, refl}
 use mathlib.Core.Bool.{cond}
 use mathlib.Core.List.{List, [], _∷_}
 use Prim.Native.Nat.{ℕ, zero, suc, _*_, _%_}

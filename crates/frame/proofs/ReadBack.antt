@@ -1,10 +1,10 @@
 -- What the writer writes reads back. Assumes nothing.
 use mathlib.Core.Path.{_≡_, refl, sym, _∙_, ap, ap₂}
-use mathlib.Core.Bool.{Bool, true, false, not, cond, _&&_, _||_}
+use mathlib.Core.Bool.{Bool, true, false, cond, _||_}
 use mathlib.Core.List.{List, [], _∷_, _++_, append-assoc}
 use Prim.Native.Nat.{ℕ, _+_, _-_, _^_, _≤_, _<_}
 use native.Mathlib.Omega.{arith}
-use lib.Dec.{ltb, eqb}
+use lib.Dec.{ltb}
 use lib.ListN.{length, take, drop, length-append}
 use lib.Seq.{take-at, drop-at}
 use borrow.Author.Tests.{eq-eqb, le-ltb, ltb-false}
@@ -14,8 +14,7 @@ use Rattle.text.specs.declared.Hex.the-variants.{Number as number}
 use Rattle.text.specs.Hex.{hexFrom, readHex, hex2, hex4}
 use Rattle.text.specs.Put.{put}
 use Rattle.text.proofs.Digits.{reads-part, hex2-back, hex4-back}
-use Rattle.text.proofs.Put.{front}
-use Rattle.frame.specs.Frame.{Answer, refused, accepted, Written, leaves, next, contains, numbered, framed, says, rightCrc, rightNumber, readContent, read, unfit, write}
+use Rattle.frame.specs.Frame.{refused, accepted, leaves, next, contains, numbered, framed, rightCrc, rightNumber, readContent, read, unfit, write}
 use Rattle.frame.proofs.Newline.{in-joined, in-hex2, in-hex4}
 
 -- a framed line without its newline

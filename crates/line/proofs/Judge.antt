@@ -1,10 +1,8 @@
 -- Laws of the judgement of a line. Assumes nothing.
 use mathlib.Core.Path.{_≡_, refl, sym, _∙_, ap, ap₂}
-use mathlib.Core.Bool.{Bool, true, false, cond}
 use mathlib.Core.List.{List, [], _∷_}
 use Prim.Native.Nat.{ℕ, _≤_, _<_}
 use native.Mathlib.Omega.{arith}
-use lib.Dec.{ltb}
 use borrow.Author.Tests.{lt-ltb, le-ltb}
 use types.Run.{OneOf, miss}
 use denote.Enum.Declared.{tagOf}
@@ -23,7 +21,7 @@ use lib.ListN.{length}
 use Rattle.argument.proofs.Past.{word-past}
 use Rattle.argument.proofs.Argument.{the-type}
 use Rattle.line.specs.Command.{Make, Command, Arguments, itemOf, commands, tagCommand, commandWords, commandAt}
-use Rattle.line.specs.Line.{Judgement, item, refused, argumentsAt, lower, lowest, verdict, byCommand, judged}
+use Rattle.line.specs.Line.{item, refused, argumentsAt, lower, lowest, verdict, byCommand, judged}
 
 -- ---- the lower of two numbers
 

@@ -5,8 +5,7 @@ use Prim.Native.Nat.{ℕ, zero, suc, _+_, _-_, _≤_, _<_}
 use native.Mathlib.Omega.{arith}
 use lib.ListN.{length, getD, replicate, List·getD-eq-default}
 use lib.Seq.{getD-drop}
-use Rattle.word.specs.Word.{padded}
-use Rattle.line.specs.Command.{Make, Command, commands, tagCommand, commandAt}
+use Rattle.line.specs.Command.{Command, commands, tagCommand, commandAt}
 use Rattle.line.specs.declared.Make.the-variants as M
 
 same-tail : (d : Command) (m : ℕ) → d ≡ getD (d ∷ []) m d

@@ -1,5 +1,5 @@
 -- No second answer fits a public function's contract.
-use mathlib.Core.Path.{_≡_, refl, sym, _∙_, ap}
+use mathlib.Core.Path.{_≡_, sym, _∙_, ap}
 use mathlib.Core.List.{List}
 use Prim.Native.Nat.{ℕ}
 use native.Mathlib.Omega.{arith}
@@ -8,7 +8,7 @@ use Rattle.argument.specs.Refusal.{numberOf}
 use Rattle.argument.proofs.Refusals.{same-number}
 use Rattle.line.specs.declared.Judged.{Judged}
 use Rattle.line.specs.declared.Judged.the-variants as J
-use Rattle.line.specs.Line.{Judgement, item, refused, meaning, judged}
+use Rattle.line.specs.Line.{meaning, judged}
 
 same-meaning : (r r' : Judged) → meaning r ≡ meaning r' → r ≡ r'
 unfolding meaning

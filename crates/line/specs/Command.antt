@@ -5,7 +5,6 @@ use lib.Dec.{eqb}
 use Prim.Native.String.{String}
 use mathlib.Core.List.{List, [], _∷_, _++_, map}
 use lib.ListN.{length, getD, replicate}
-use Rattle.value.specs.declared.Operation.{Operation}
 use Rattle.value.specs.declared.Operation.the-variants.{Add as add, Sub as sub, Mul as mul, Div as div}
 use Rattle.table.specs.declared.Condition.{Condition}
 use Rattle.table.specs.declared.Sweep.{Sweep}
@@ -21,7 +20,8 @@ use Rattle.table.specs.declared.Close.{Close}
 use Rattle.table.specs.declared.Close.the-variants.{EndIf as endif, EndLoop as endloop}
 use Rattle.table.specs.declared.Item.{Item}
 use Rattle.table.specs.declared.Item.the-variants.{Act as act, Pack as pack, Open as opens, Branch as branch, Close as closes, Break as breakloop, Tag as tag}
-use Rattle.word.specs.Word.{ascii, padded}
+use Rattle.text.specs.Bytes.{ascii}
+use Rattle.word.specs.Word.{padded}
 use Rattle.argument.specs.declared.Argument.{Argument}
 use Rattle.argument.specs.declared.Form.{Form}
 use Rattle.argument.specs.declared.Form.the-variants.{Nothing, New, Name, Operand, Literal, Letters, Number, Comparison, Text}

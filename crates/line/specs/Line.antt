@@ -1,6 +1,6 @@
 -- 01, "Script text" and "The checker": a line that is not skipped: its item, or the lowest of its numbers 14 to 18.
-use mathlib.Core.Bool.{Bool, true, false, cond}
-use mathlib.Core.List.{List, [], _∷_}
+use mathlib.Core.Bool.{cond}
+use mathlib.Core.List.{List}
 use Prim.Native.Nat.{ℕ}
 use lib.Dec.{ltb}
 use lib.ListN.{getD}

@@ -13,7 +13,7 @@ use Rattle.reply.specs.declared.Answer.{Answer}
 use Rattle.reply.specs.declared.Answer.the-variants as Answer
 use Rattle.reply.specs.declared.NextLine.{NextLine}
 use Rattle.reply.specs.declared.Row.{Row}
-use Rattle.reply.specs.Reply.{refusal, meaning, outcomeOf}
+use Rattle.reply.specs.Reply.{meaning, outcomeOf}
 use Rattle.reply.specs.declared.Table.{Table}
 use Rattle.reply.specs.Rows.{scriptRow, tableOf, Tabled, tableMeaning, readTable}
 use denote.Ref.{RefT}

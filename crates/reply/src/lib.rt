@@ -1,6 +1,6 @@
 // A reply: what its lines do, the verdict on the whole, the rows that the caller lends, and a reader of lines.
 ghost use mathlib.Core.Path.{_≡_};
-ghost use mathlib.Core.Bool.{true, false};
+ghost use mathlib.Core.Bool.{false};
 ghost use Prim.Native.Nat.{_+_, _≤_, _<_};
 ghost use lib.ListN.{length, getD};
 ghost use Rattle.reply.specs.Reply.{closes, step, verdict, meaning, outcomeOf};

@@ -1,10 +1,10 @@
 -- What holds after an item, from the code's pieces. Assumes nothing.
 use Prim.Native.Nat.{ℕ, _+_, _-_, _≤_, _<_}
-use mathlib.Core.Path.{_≡_, refl, sym, ap, _∙_}
+use mathlib.Core.Path.{_≡_}
 use mathlib.Core.Bool.{Bool, false}
-use mathlib.Core.List.{List, [], _∷_}
+use mathlib.Core.List.{List}
 use lib.ListN.{length, getD, set}
-use Rattle.rules.specs.Words.{Sort, Head, opens, Branch, branch, Item, Act, act, Give}
+use Rattle.rules.specs.Words.{Sort, Head, opens, Branch, Item, Act, act, Give}
 use Rattle.table.specs.Item.{sortOf, isElse}
 use Rattle.table.specs.Uses.{Names, gives, headGives}
 use Rattle.rules.specs.Check.{Box, State, both, everything, put, left, branched, closed, after}

@@ -1,23 +1,23 @@
 -- Every mark of an accepted table has its mate. Assumes nothing.
 use Prim.Native.Nat.{ℕ, zero, suc, _+_, _<_}
-use mathlib.Core.Path.{_≡_, refl, sym, ap, _∙_, subst}
+use mathlib.Core.Path.{_≡_, refl, sym, _∙_, subst}
 use mathlib.Core.Bool.{Bool, true, false, not, _&&_, _||_, cond}
 use mathlib.Core.List.{List, [], _∷_}
-use mathlib.Core.Option.{Option, none, some}
+use mathlib.Core.Option.{Option, some}
 use native.Mathlib.Nat.{not-suc-le-zero, le-of-suc-le-suc, add-zero, zero-add}
 use native.Mathlib.Omega.{arith}
 use lib.Dec.{eqb, T}
-use lib.ListN.{length, getD, take, drop, replicate}
+use lib.ListN.{length, take, drop, replicate}
 use borrow.Author.Tests.{eq-eqb}
-use Rattle.rules.specs.Words.{Item, act, pack, opens, branch, closes, breakloop, tag, Branch, Close, Script, unknown}
+use Rattle.rules.specs.Words.{Item, act, pack, opens, branch, closes, breakloop, tag, Script, unknown}
 use Rattle.table.specs.Item.{isOpen, isBranch, isClose, fits}
 use Rattle.table.specs.Uses.{Kinds, first}
 use Rattle.table.specs.Shape.{itemsOf, inShape}
 use Rattle.mates.specs.declared.Open.{Open}
-use Rattle.mates.specs.Mates.{fitsTop, scan, scanAll, boxesAt, belongs, closeFrom, closeOf, itemAt}
+use Rattle.mates.specs.Mates.{fitsTop, scan, scanAll, belongs, closeFrom, itemAt}
 use Rattle.rules.specs.Check.{Box, State, begin, kindsOf, isEmpty, misplaced, refusals, refusalsAtEnd, after, Verdict, accepted, refused, orGo, walk, atLine, walked, verdict}
 use Rattle.rules.specs.Mated.{isFound, Mated}
-use Rattle.rules.proofs.Rows.{Quiet, no-refusal, no-refusal-at-end}
+use Rattle.rules.proofs.Rows.{no-refusal, no-refusal-at-end}
 
 no : {X : Type 0} → true ≡ false → X
 no e = absurd (subst T e tt)

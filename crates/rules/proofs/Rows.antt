@@ -1,6 +1,6 @@
 -- Rows of tests. Assumes nothing.
-use Prim.Native.Nat.{ℕ, suc, _≤_, _<_}
-use mathlib.Core.Path.{_≡_, refl, sym, ap, _∙_}
+use Prim.Native.Nat.{ℕ, _<_}
+use mathlib.Core.Path.{_≡_, refl}
 use mathlib.Core.Bool.{Bool, true, false, _&&_, cond}
 use mathlib.Core.List.{List, [], _∷_}
 use native.Mathlib.Omega.{arith}
@@ -11,7 +11,6 @@ use Rattle.table.specs.Item.{isOpen}
 use Rattle.table.specs.Uses.{Kinds, first}
 use Rattle.rules.specs.Check.{State, refusals, refusalsAtEnd}
 use Rattle.rules.specs.Standing.{Standing, stateOf, rowsOf}
-use Rattle.rules.specs.declared.Tests.{Tests}
 use Rattle.rules.proofs.Boxes.{length-top}
 
 pub same-rows : {a a' b b' c c' d d' e e' f f' g g' h h' : Bool}

@@ -6,7 +6,7 @@ use mathlib.Core.List.{List}
 use lib.Dec.{eqb}
 use lib.ListN.{length}
 use Rattle.rules.specs.Words.{Script}
-use Rattle.rules.specs.Check.{Verdict, accepted, refused, verdict}
+use Rattle.rules.specs.Check.{verdict}
 use Rattle.rules.specs.Verdict.{Rule, Shape, Kinds, Unwritten, Mark, Ninth, Package, Tag, SameName, Nested, numberOf, meaning}
 use Rattle.rules.specs.declared.Verdict.{Verdict as Answer}
 use Rattle.rules.specs.declared.Verdict.the-variants.{Accepted, Refused}

@@ -1,16 +1,16 @@
 -- Pairs of scripts that differ by one item, one pair for each of 19 to 26 (01, The checker): with the one item the script is accepted, with the
 -- other it is refused. So no constant verdict fits.
-use Prim.Native.Nat.{ℕ, zero, suc, _+_, _-_}
+use Prim.Native.Nat.{ℕ, suc, _+_, _-_}
 use mathlib.Core.Path.{_≡_}
 use mathlib.Core.Bool.{false}
 use mathlib.Core.List.{List, [], _∷_, _++_}
 use lib.IntN.{pos}
 use lib.Ieee.{fin}
 use lib.ListN.{length, replicate}
-use Rattle.rules.specs.Words.{Value, whole, real, Operand, name, literal, equal, Item, act, pack, opens, closes, breakloop, tag, Slot, Script}
+use Rattle.rules.specs.Words.{Value, whole, real, name, literal, equal, Item, act, pack, opens, closes, tag, Slot, Script}
 use Rattle.rules.specs.Words.{store, wait, cellOn, cellOff, pckStart, pckEnd, if', loop, sweep, endif, endloop}
 use Rattle.table.specs.Shape.{noSlot}
-use Rattle.rules.specs.Check.{Verdict, accepted, refused, verdict}
+use Rattle.rules.specs.Check.{accepted, refused, verdict}
 
 -- the items on lines 1, 2 and so on, with four names and an ending line behind the last
 abbrev slots : ℕ → List Item → List Slot

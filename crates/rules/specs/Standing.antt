@@ -1,6 +1,6 @@
 -- How the code's arrays stand for the definition's lists: the open boxes, and the names' kinds are lists as they are.
 use Prim.Native.Nat.{ℕ, zero, suc}
-use mathlib.Core.Bool.{Bool, true, false}
+use mathlib.Core.Bool.{Bool, false}
 use mathlib.Core.List.{List, [], _∷_}
 use lib.ListN.{getD}
 use Rattle.rules.specs.Words.{Item, Sort, ifBox, Give}

@@ -7,7 +7,7 @@ use Rattle.table.specs.Uses.{Kinds, first}
 use Rattle.table.specs.Shape.{itemsOf}
 use Rattle.rules.specs.Check.{refusals, after, Verdict, accepted, orGo, walk}
 use Rattle.rules.specs.Standing.{Standing, stateOf}
-use Rattle.rules.specs.Verdict.{Finding, Nothing, found}
+use Rattle.rules.specs.Verdict.{Nothing, found}
 pub use Rattle.rules.specs.declared.Walk.{Walk}
 
 unfoldable pub restOf : Script → Kinds → ℕ → Standing → Verdict

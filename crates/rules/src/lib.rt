@@ -6,7 +6,7 @@ ghost use Prim.Native.Nat.{_≤_, _<_};
 ghost use lib.Dec.{leb};
 ghost use lib.ListN.{length, set, replicate};
 ghost use Rattle.table.specs.Item.{isOpen, isSweep, isTag, isElse, opensA};
-ghost use Rattle.table.specs.Uses.{kindAt, kindIn, has, uses, gives, headGives, wrong, wrongGive, missing, first, allGives, packs};
+ghost use Rattle.table.specs.Uses.{kindAt, has, uses, gives, headGives, wrong, wrongGive, missing, first, allGives};
 ghost use Rattle.table.specs.Shape.{itemsOf};
 ghost use Rattle.rules.specs.Check.{begin, both, put, orElse, learn, kindsOf, anyBox, base, misplaced, twice, isEmpty, refusals, refusalsAtEnd, left, closed, everything, after, walk, lineOf, verdict};
 ghost use Rattle.rules.specs.Standing.{stateOf, rowsOf, asked, fitsInnermost, elseSeen, afterWrites};

@@ -2,7 +2,7 @@
 use Prim.Native.Nat.{ℕ}
 use Prim.Native.String.{String}
 use mathlib.Core.List.{List, [], _∷_, _++_}
-use Rattle.word.specs.Word.{ascii}
+use Rattle.text.specs.Bytes.{ascii}
 
 -- a line and its newline
 abbrev pub line : String → List ℕ

@@ -1,8 +1,8 @@
 -- The item that a command makes of arguments in shape is in shape. Assumes nothing.
 use mathlib.Core.Path.{_≡_, refl, sym, _∙_, ap}
-use mathlib.Core.Bool.{Bool, true, false, _&&_, cond}
+use mathlib.Core.Bool.{Bool, true, false, cond}
 use mathlib.Core.List.{List, [], _∷_}
-use Prim.Native.Nat.{ℕ, zero, suc, _+_, _≤_, _<_}
+use Prim.Native.Nat.{ℕ, zero, suc, _+_, _≤_}
 use native.Mathlib.Omega.{arith}
 use lib.Dec.{ltb}
 use lib.ListN.{length, getD}
@@ -12,8 +12,6 @@ use Rattle.table.specs.Shape.{itemOk}
 use Rattle.word.specs.declared.Found.{Found}
 use Rattle.word.specs.declared.Found.the-variants as At
 use Rattle.word.specs.Word.{wordAt, part, padded, seek}
-use Rattle.argument.specs.declared.Argument.{Argument}
-use Rattle.argument.specs.declared.Form.{Form}
 use Rattle.argument.specs.Argument.{nameOf, wrongOf, saidAt}
 use Rattle.line.specs.declared.Arguments.{Arguments}
 use Rattle.line.specs.declared.MakeAct.the-variants as A

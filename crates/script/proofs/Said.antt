@@ -1,8 +1,8 @@
 -- What an argument's word says is in shape: names below their count, literals finite, texts inside. Assumes nothing.
-use mathlib.Core.Path.{_≡_, refl, sym, _∙_, ap, subst}
-use mathlib.Core.Bool.{Bool, true, false, _&&_, cond}
+use mathlib.Core.Path.{_≡_, refl}
+use mathlib.Core.Bool.{Bool, true, false, cond}
 use mathlib.Core.List.{List, [], _∷_}
-use Prim.Native.Nat.{ℕ, zero, suc, _+_, _≤_, _<_}
+use Prim.Native.Nat.{ℕ, suc, _+_, _≤_, _<_}
 use native.Mathlib.Omega.{arith}
 use lib.Dec.{ltb, leb, eqb}
 use lib.ListN.{length, drop, getD}
@@ -29,7 +29,6 @@ use Rattle.argument.specs.declared.Argument.{Argument}
 use Rattle.argument.specs.declared.Argument.the-variants as A
 use Rattle.argument.specs.declared.Form.{Form}
 use Rattle.argument.specs.declared.Form.the-variants as F
-use Rattle.argument.specs.declared.Said.{Said}
 use Rattle.argument.specs.Argument.{nameOf, operandOf, valueOf, textOf, wrongOf, emptySaid, known, nameSaid, fresh, newSaid, valuedBy, literalSaid, knownOperand, literalOperand, operandSaid, letteredBy, typeSaid, numberedBy, numberSaid, signs, comparedBy, comparisonSaid, said, closedAt, textAt, isText, stopped, saidAt}
 use Rattle.script.proofs.Room.{isNew}
 

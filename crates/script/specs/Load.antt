@@ -9,7 +9,6 @@ use Rattle.table.specs.declared.Act.{Act}
 use Rattle.table.specs.declared.Act.the-variants.{Var as var, Store as store, Copy as copy, Calc as calc, Meas as meas, TimerGet as timerGet, SendString as sendString, Wait as wait, SetE as setE, SetMode as setMode, TimerStart as timerStart, CellOn as cellOn, CellOff as cellOff, Abort as abort}
 use Rattle.table.specs.declared.Item.{Item}
 use Rattle.table.specs.declared.Item.the-variants.{Act as act, Pack as pack, Open as opens, Branch as branch, Close as closes, Break as breakloop, Tag as tag}
-use Rattle.table.specs.declared.Slot.{Slot}
 use Rattle.table.specs.declared.Script.{Script}
 use Rattle.word.specs.Word.{wordAt, part, padded, skipped}
 use Rattle.argument.specs.Refusal.{numberOf}

@@ -7,7 +7,7 @@ use table::Script;
 use table::Slot;
 ghost use mathlib.Core.Path.{_≡_};
 ghost use Prim.Native.Nat.{_+_, _≤_, _<_};
-ghost use lib.ListN.{length, set};
+ghost use lib.ListN.{set};
 ghost use lib.Dec.{ltb};
 ghost use mathlib.Core.Bool.{cond};
 ghost use Rattle.argument.specs.Refusal.{numberOf};

@@ -1,7 +1,7 @@
 -- No second answer fits: for each public function, two answers that both keep its contract are equal. Assumes nothing.
-use mathlib.Core.Path.{_≡_, refl, sym, ap, _∙_}
+use mathlib.Core.Path.{_≡_, refl, sym, _∙_}
 use mathlib.Core.Bool.{Bool}
-use mathlib.Core.List.{List, [], _∷_}
+use mathlib.Core.List.{List}
 use Prim.Native.Nat.{ℕ}
 use lib.ListN.{length}
 use Rattle.table.specs.Item.{Value, Operand, Head, Item, Slot, Script, Sort, sortOf, isLoop, isSweep, isOpen, isBranch, isClose, fits}

@@ -1,13 +1,13 @@
 -- Laws of whole numbers that wrap. `seen z` is what is read back of z's 64 bits. Assumes nothing.
-use mathlib.Core.Path.{_≡_, refl, sym, _∙_, ap, ap₂, subst}
+use mathlib.Core.Path.{_≡_, refl, sym, _∙_, ap, subst}
 use mathlib.Core.Bool.{Bool, true, false, cond}
 use Prim.Native.Nat.{ℕ, zero, suc, _+_, _-_, _*_, _/_, _%_, _^_, _≤_, _<_}
-use native.Mathlib.Nat.{le-refl, le-trans, lt-of-le-of-lt, mul-le-mul, div-le-self, div-lt-self, mod-lt, le-of-lt, le-suc}
+use native.Mathlib.Nat.{le-refl, lt-of-le-of-lt, mul-le-mul, div-le-self, div-lt-self, le-suc}
 use native.Mathlib.Omega.{arith}
 use native.Mathlib.Decide.{decLt}
 use lib.Dec.{T, ltb, eqb}
 use lib.IntN.{ℤ, pos, negsuc, negℤ, natAbs, subℕ, _+ℤ_, _-ℤ_, _*ℤ_, -ℤ-+ℤ-cancel}
-use lib.Signed.{mag, nonNeg, ltZ, quotZ, remZ, mag-rem, natAbs-le}
+use lib.Signed.{mag, nonNeg, ltZ, quotZ, remZ, natAbs-le}
 use mir.Syntax.{w32, w64}
 use mir.Val.{Fits, SFits, toZ, ofZ}
 use mir.Facts.{toZ-ofZ, sfits-widen}

@@ -1,12 +1,13 @@
 // Values: whole numbers and floats, literals, arithmetic and comparison.
 ghost use mathlib.Core.Path.{_≡_};
 ghost use Prim.Native.Nat.{_+_, _≤_, _<_, _%_, _^_};
-ghost use lib.IntN.{natAbs, ℤ, pos, negsuc, negℤ, _+ℤ_, _-ℤ_, _*ℤ_};
+ghost use lib.IntN.{natAbs, pos, negℤ, _+ℤ_, _-ℤ_, _*ℤ_};
 ghost use lib.ListN.{length, drop};
 ghost use lib.Signed.{quotZ, remZ, mag};
 ghost use Rattle.value.specs.Arithmetic.{rest, signedWord, wrap, wholes, isZero, reals, checked, isFinite, finite, calculated, compareWholes, compareReals, compares};
 ghost use Rattle.value.specs.Fold.{folded};
-ghost use Rattle.value.specs.Literal.{byLetter, suffixed, finish, readDigits, literal};
+ghost use Rattle.prefix.specs.Prefix.{prefixOf};
+ghost use Rattle.value.specs.Literal.{lettered, suffixed, finish, readDigits, literal};
 
 // Inside the machine a value is either a whole number or a float.
 pub enum Value {
@@ -65,7 +66,7 @@ const TEN_18: f64 = 1000000000000000000.0;
 
 fn by_letter(z: i32, at: usize, c: u8) -> Literal
     requires { ⌜ at < 2 ^ 63 ⌝ }
-    ensures { λ r. ⌜ r ≡ byLetter z at c ⌝ }
+    ensures { λ r. ⌜ r ≡ lettered z at (prefixOf c) ⌝ }
 {
     let after = at + 1;
     match c {

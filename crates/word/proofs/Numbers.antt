@@ -1,7 +1,7 @@
 -- Laws of small numbers. Assumes nothing.
 use mathlib.Core.Path.{_≡_, refl}
 use mathlib.Core.Bool.{Bool, true, false, _&&_, cond}
-use mathlib.Core.List.{List, [], _∷_}
+use mathlib.Core.List.{List}
 use Prim.Native.Nat.{ℕ, _+_, _-_, _*_, _≤_, _<_}
 use native.Mathlib.Numerals.{add-one}
 use native.Mathlib.Omega.{arith}
@@ -10,7 +10,7 @@ use lib.ListN.{length, drop, getD, drop-of-length-le}
 use lib.Seq.{drop-cons}
 use borrow.Author.Tests.{le-leb, lt-leb, leb-true}
 use Rattle.text.specs.Bytes.{digit}
-use Rattle.word.specs.Word.{Small, number, noNumber, readSmall, smallOf}
+use Rattle.word.specs.Word.{number, noNumber, readSmall, smallOf}
 
 pub digit-fits : (c : ℕ) → digit c ≡ true → (48 ≤ c) × (c ≤ 57)
 unfolding digit

@@ -1,14 +1,14 @@
 -- Laws of words as rows of a table. Assumes nothing.
 use mathlib.Core.Path.{_≡_, refl, sym, _∙_, ap}
 use mathlib.Core.Bool.{true, _&&_, cond}
-use mathlib.Core.List.{List, [], _∷_, _++_}
+use mathlib.Core.List.{List, [], _++_}
 use Prim.Native.Nat.{ℕ, suc, _+_, _-_, _≤_, _<_}
 use native.Mathlib.Numerals.{add-one}
 use native.Mathlib.Omega.{arith}
 use lib.Dec.{eqb}
 use lib.ListN.{length, take, drop, getD, set, replicate, drop-of-length-le}
 use lib.Seq.{drop-cons, take-all, take-length, length-take-le, set-at, take-suc, append-snoc}
-use Rattle.word.specs.Word.{Found, at, nowhere, padded, sameBytes, place}
+use Rattle.word.specs.Word.{at, nowhere, padded, sameBytes, place}
 
 pub same-next : (a b : List ℕ) (i : ℕ) → i < length a → i < length b
     → sameBytes (drop i a) (drop i b) ≡ (eqb (getD a i 0) (getD b i 0) && sameBytes (drop (i + 1) a) (drop (i + 1) b))

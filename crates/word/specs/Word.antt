@@ -2,8 +2,6 @@
 use mathlib.Core.Bool.{Bool, true, false, not, _&&_, _||_, cond}
 use mathlib.Core.List.{List, [], _∷_, _++_}
 use Prim.Native.Nat.{ℕ, suc, _+_, _-_, _*_}
-use Prim.Native.Char.{code}
-use Prim.Native.String.{String, [] as none, _∷_ as _then_}
 use lib.Dec.{leb, eqb}
 use lib.ListN.{length, take, drop, getD, replicate}
 use Rattle.text.specs.Bytes.{blank, digit, lower, starts, nameByte}
@@ -61,11 +59,7 @@ readSmall v (c ∷ s) = cond (digit c && leb (v * 10 + (c - 48)) 255) (readSmall
 unfoldable pub smallOf : List ℕ → Small
 smallOf w = cond (leb 1 (length w)) (readSmall 0 w) noNumber
 
--- ---- words of a table: bytes of ASCII, 16 a row, filled up with spaces, which no word holds
-
-abbrev pub ascii : String → List ℕ
-ascii none = []
-ascii (c then s) = code c ∷ ascii s
+-- ---- words of a table: 16 bytes a row, filled up with spaces, which no word holds
 
 unfoldable pub padded : List ℕ → List ℕ
 padded w = take 16 w ++ replicate (16 - length w) 32

@@ -1,8 +1,8 @@
 // Words of a line: where the next one stands, names, types, small numbers, and words found in a table.
 ghost use mathlib.Core.Path.{_≡_};
-ghost use Prim.Native.Nat.{_+_, _≤_, _<_};
-ghost use lib.ListN.{length, take, drop};
-ghost use Rattle.word.specs.Word.{inClass, run, wordAt, skipped, nameForm, readType, readSmall, smallOf, padded, sameBytes, place, seek};
+ghost use Prim.Native.Nat.{_+_, _<_};
+ghost use lib.ListN.{drop};
+ghost use Rattle.word.specs.Word.{inClass, run, wordAt, skipped, nameForm, readType, smallOf, padded, sameBytes, place, seek};
 
 pub enum Class {
     Blank,

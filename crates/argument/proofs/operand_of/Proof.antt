@@ -1,16 +1,15 @@
-use mathlib.Core.Path.{_≡_, refl, sym, _∙_, ap}
+use mathlib.Core.Path.{_≡_, refl}
 use mathlib.Core.List.{List, [], _∷_}
 use Prim.Native.Nat.{ℕ}
 use lib.IntN.{pos}
 use types.Run.{OneOf, miss}
 use denote.Enum.Declared.{tagOf}
 use Rattle.value.specs.declared.Value.the-variants.{Whole as whole}
-use Rattle.value.specs.declared.Comparison.the-variants.{Equal as equal}
 use Rattle.table.specs.declared.Operand.the-variants.{Literal as literal}
 use Rattle.table.specs.declared.Text.{Text}
 use Rattle.argument.specs.declared.Argument.{Argument}
 use Rattle.argument.specs.declared.Argument.the-variants as A
-use Rattle.argument.specs.Argument.{nameOf, operandOf, valueOf, lettersOf, smallOf, comparisonOf, textOf, wrongOf}
+use Rattle.argument.specs.Argument.{operandOf}
 use Rattle.argument.proofs.Argument.{the-type}
 use borrow.Author.Needs.{needs}
 use Rattle.argument.proofs.operand_of.Statement.{statement}

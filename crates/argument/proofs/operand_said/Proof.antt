@@ -1,9 +1,5 @@
-use mathlib.Core.Path.{_≡_, refl, sym, _∙_, ap}
-use native.Mathlib.Omega.{arith}
-use lib.ListN.{length, drop, getD, List·getD-eq-default}
-use borrow.Author.Tests.{lt-ltb, lt-leb, le-leb, le-ltb, eq-eqb, ne-eqb, not-true, not-false}
-use Rattle.argument.specs.Refusal.{numberOf}
-use Rattle.argument.specs.Argument.{emptySaid, newSaid, nameSaid, literalSaid, operandSaid, typeSaid, numberSaid, signs, comparisonAt, comparisonSaid, said, isText, textAt, saidAt}
+use mathlib.Core.Path.{sym, _∙_}
+use Rattle.argument.specs.Argument.{operandSaid}
 use borrow.Author.Needs.{needs}
 use Rattle.argument.proofs.operand_said.Statement.{statement}
 use Rattle.argument.proofs.operand_said.Tie as tie

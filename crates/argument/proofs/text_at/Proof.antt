@@ -1,9 +1,8 @@
-use mathlib.Core.Path.{_≡_, refl, sym, _∙_, ap}
+use mathlib.Core.Path.{sym}
 use native.Mathlib.Omega.{arith}
-use lib.ListN.{length, drop, getD, List·getD-eq-default}
-use borrow.Author.Tests.{lt-ltb, lt-leb, le-leb, le-ltb, eq-eqb, ne-eqb, not-true, not-false}
-use Rattle.argument.specs.Refusal.{numberOf}
-use Rattle.argument.specs.Argument.{emptySaid, newSaid, nameSaid, literalSaid, operandSaid, typeSaid, numberSaid, signs, comparisonAt, comparisonSaid, said, isText, textAt, saidAt}
+use lib.ListN.{List·getD-eq-default}
+use borrow.Author.Tests.{lt-ltb, le-ltb, eq-eqb, ne-eqb}
+use Rattle.argument.specs.Argument.{textAt}
 use borrow.Author.Needs.{needs}
 use Rattle.argument.proofs.text_at.Statement.{statement}
 use Rattle.argument.proofs.text_at.Tie as tie

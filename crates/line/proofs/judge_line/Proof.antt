@@ -1,9 +1,9 @@
-use mathlib.Core.Path.{_≡_, refl, sym, _∙_, ap}
+use mathlib.Core.Path.{sym, _∙_}
 use native.Mathlib.Omega.{arith}
 use Rattle.word.proofs.Runs.{inside}
 use Rattle.argument.specs.Refusal.{numberOf}
 use Rattle.line.specs.Command.{commandAt}
-use Rattle.line.specs.Line.{meaning, judged}
+use Rattle.line.specs.Line.{meaning}
 use Rattle.line.proofs.Judge as L
 use borrow.Author.Needs.{needs}
 use Rattle.line.proofs.judge_line.Statement.{statement}

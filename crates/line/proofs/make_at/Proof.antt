@@ -1,11 +1,6 @@
-use borrow.Author.Needs.{needs}
-use mathlib.Core.Path.{_≡_, refl, sym, _∙_, ap}
+use mathlib.Core.Path.{sym, ap}
 use native.Mathlib.Omega.{arith}
-use lib.ListN.{length, take, drop, getD}
-use borrow.Author.Tests.{lt-ltb, lt-leb, le-leb, le-ltb, eq-eqb, ne-eqb, not-true, not-false}
-use Rattle.argument.specs.Argument.{nameOf, operandOf, valueOf, lettersOf, smallOf, comparisonOf, textOf, wrongOf}
-use Rattle.line.specs.Command.{conditionOf, sweepOf, actOf, packOf, headOf, branchOf, itemOf, commands, tagCommand, commandWords, commandAt, formOf}
-use Rattle.line.specs.Line.{argumentsAt, lower, lowest, meaning, judged}
+use Rattle.line.specs.Command.{commands, commandAt}
 use Prim.Native.Nat.{ℕ}
 use Rattle.line.proofs.Rows as L
 use Rattle.line.proofs.make_at.Statement.{statement}

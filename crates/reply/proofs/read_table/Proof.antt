@@ -1,7 +1,7 @@
 -- `read_table` meets its contract: a walk of its MIR, by hand. A local array of rows is made, lent whole to `read_reply` for a lifetime that is made for the call, and comes back; it goes into the result by value.
 -- Assumes nothing.
 use mathlib.Core.Path.{_≡_, refl, _∙_, ap, subst}
-use Prim.Native.Nat.{ℕ, _<_}
+use Prim.Native.Nat.{ℕ}
 use mathlib.Core.List.{[], _∷_, List, map}
 use lib.ListN.{length, replicate, length-replicate}
 use lib.Dec.{T as Holds, lit<}
@@ -19,7 +19,7 @@ use contract.Monad.{Fun, fact}
 use contract.Running.{givenOf, tables, tablesOf}
 use types.Kit.{Given, given, some, later, use3, pick, learn, await, ‵, raw, _⊛_, ⋆, _$_, _∵_, !, qed, by, move, keep, drop, use1, use2, split, join, rewrite, fsplit, fjoin, suffices, frame, done}
 use types.Run.{look, init, forget, stop, from, load, lit, addr, of-opd, and-then, no-more, assigns, land, returns, enter, alloc1, alloc0, params1, pass1, pass0, free1, free0}
-use types.Part.{whole, agg, rep}
+use types.Part.{agg, rep}
 use sound.WpLaws.{FmC, fmOf, WpFn-mono}
 use denote.RattleType.{RattleType, owns}
 use denote.Laws.{Is, shows}

@@ -1,6 +1,5 @@
-use mathlib.Core.Path.{refl, sym, ap, _∙_}
+use mathlib.Core.Path.{_∙_}
 use native.Mathlib.Omega.{arith}
-use Rattle.table.specs.Uses.{gives}
 use Rattle.rules.specs.Standing.{stateOf}
 use Rattle.rules.proofs.After.{act-is, same-item}
 use Rattle.rules.proofs.Rows.{room}

@@ -1,5 +1,4 @@
 use Rattle.rules.proofs.After.{close-is}
-use mathlib.Core.Path.{refl}
 use native.Mathlib.Omega.{arith}
 use borrow.Author.Needs.{needs}
 use Rattle.rules.proofs.after_close.Statement.{statement}

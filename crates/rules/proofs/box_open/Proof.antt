@@ -1,4 +1,3 @@
-use mathlib.Core.Path.{_≡_}
 use Rattle.rules.proofs.Boxes.{some-open}
 use Rattle.rules.proofs.box_open.Statement.{statement}
 use Rattle.rules.proofs.box_open.Tie as tie

@@ -1,6 +1,4 @@
-use mathlib.Core.Path.{sym, ap, _∙_}
-use Rattle.table.specs.Uses.{allGives}
-use Rattle.rules.specs.Check.{twice}
+use mathlib.Core.Path.{sym}
 use Rattle.rules.proofs.Writes.{one-write}
 use borrow.Author.Needs.{needs}
 use Rattle.rules.proofs.same_name.Statement.{statement}

@@ -1,6 +1,5 @@
 use mathlib.Core.Path.{refl, sym, ap, _∙_}
 use Rattle.rules.specs.Verdict.{found}
-use Rattle.rules.specs.Walk.{Taken}
 use Rattle.rules.proofs.Rows.{not-ninth}
 use Rattle.rules.proofs.Way.{not-nothing}
 use borrow.Author.Needs.{needs}

@@ -1,7 +1,4 @@
-use mathlib.Core.Path.{sym, ap, _∙_}
-use mathlib.Core.Bool.{_&&_}
-use lib.Dec.{leb}
-use Rattle.table.specs.Item.{isOpen}
+use mathlib.Core.Path.{ap, _∙_}
 use Rattle.rules.specs.Check.{twice}
 use Rattle.rules.proofs.Boxes.{length-top}
 use Rattle.rules.proofs.Rows.{same-rows}

@@ -1,5 +1,4 @@
 use mathlib.Core.Path.{ap}
-use mathlib.Core.List.{List}
 use borrow.Author.Needs.{needs}
 use Rattle.table.specs.declared.Script.{Script}
 use Rattle.argument.specs.Refusal.{numberOf}

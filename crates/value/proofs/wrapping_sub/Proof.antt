@@ -1,9 +1,8 @@
-use mathlib.Core.Path.{_≡_, refl, sym, _∙_, ap, ap₂, subst}
+use mathlib.Core.Path.{_≡_, sym, _∙_, ap}
 use Prim.Native.Nat.{ℕ, _+_, _%_}
-use lib.IntN.{ℤ, pos, negsuc, natAbs, _+ℤ_, _-ℤ_}
+use lib.IntN.{ℤ}
 use mir.Facts.{toZ-ofZ}
 use Rattle.value.specs.Arithmetic.{rest, signedWord, wrap}
-use Rattle.value.specs.Fold.{folded}
 use Rattle.value.proofs.Wrap as L
 use borrow.Author.Needs.{needs}
 use Rattle.value.proofs.wrapping_sub.Statement.{statement}

@@ -1,12 +1,4 @@
-use mathlib.Core.Path.{_≡_, refl, sym, _∙_, ap}
-use mathlib.Core.List.{List, _++_}
-use Prim.Native.Nat.{ℕ, _+_, _-_, _*_, _≤_, _<_}
-use native.Mathlib.Nat.{zero-add}
-use native.Mathlib.Omega.{arith}
 use borrow.Author.Needs.{needs}
-use borrow.Author.Tests.{lt-ltb, lt-leb, le-leb, le-ltb, eq-eqb, ne-eqb, not-true, not-false}
-use lib.ListN.{length, take, drop, getD, set, replicate, length-set}
-use Rattle.word.specs.Word.{inClass, run, wordAt, skipped, nameForm, readType, readSmall, smallOf, padded, sameBytes, place, seek}
 use Rattle.word.proofs.Runs as L
 use Rattle.word.proofs.is_skipped.Statement.{statement}
 use Rattle.word.proofs.is_skipped.Tie as tie

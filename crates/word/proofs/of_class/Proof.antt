@@ -1,4 +1,3 @@
-use mathlib.Core.Path.{_≡_, refl, sym, _∙_, ap}
 use Rattle.word.specs.Word.{inClass}
 use borrow.Author.Needs.{needs}
 use Rattle.word.proofs.of_class.Statement.{statement}

@@ -1,5 +1,5 @@
-use mathlib.Core.Path.{_≡_, refl, sym, _∙_, ap}
-use borrow.Author.Tests.{lt-ltb, lt-leb, le-leb, le-ltb, eq-eqb, ne-eqb, not-true, not-false}
+use mathlib.Core.Path.{sym, _∙_}
+use borrow.Author.Tests.{eq-eqb, ne-eqb, not-true, not-false}
 use native.Mathlib.Omega.{arith}
 use Rattle.word.specs.Word.{readType}
 use borrow.Author.Needs.{needs}
