@@ -61,9 +61,6 @@ meaning-injective (Answer.Refused w k) (Answer.Refused w′ k′) e =
     let q : k ≡ k′ = cc in
     ap₂ Answer.Refused (number-injective w w′ p) q
 
-pub only-next-line : (s : List ℕ) (at : ℕ) (a b : NextLine) → a ≡ nextLine s at → b ≡ nextLine s at → a ≡ b
-only-next-line s at a b p q = p ∙ sym q
-
 pub only-read-reply : (s : List ℕ) (ys : List Row) (a b : Answer) (left right : List Row)
     → (meaning a ≡ outcomeOf (length ys) s) × (left ≡ tableOf s ys) → (meaning b ≡ outcomeOf (length ys) s) × (right ≡ tableOf s ys) → (a ≡ b) × (left ≡ right)
 only-read-reply s ys a b left right p q = (meaning-injective a b (p .0 ∙ sym (q .0)), p .1 ∙ sym (q .1))

@@ -66,7 +66,7 @@ pub enum NextLine {
 }
 
 // The line that starts at a place. Bytes after the last newline are no line.
-pub fn next_line(reply: &[u8], at: usize) -> NextLine
+fn next_line(reply: &[u8], at: usize) -> NextLine
     ensures { λ r. ⌜ r ≡ nextLine (now (reply .entry)) at ⌝ }
 {
     let e = text::next_byte(reply, at, b'\n');
