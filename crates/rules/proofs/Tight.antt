@@ -12,7 +12,7 @@ use Rattle.rules.specs.declared.Verdict.{Verdict as Answer}
 use Rattle.rules.specs.declared.Verdict.the-variants.{Accepted, Refused}
 
 -- the rule of a number
-abbrev ruleOf : ℕ → Rule
+abbrev pub ruleOf : ℕ → Rule
 ruleOf n =
     cond (eqb n 19) Kinds
     (cond (eqb n 20) Unwritten

@@ -1,255 +1,138 @@
-use Prim.Native.Nat.{_+_, _-_, _*_, _≤_}
+use Prim.Native.Nat.{ℕ, _+_, _-_, _*_, _≤_, _<_}
 use mathlib.Core.Path.{_≡_, refl, _∙_}
 use native.Mathlib.Omega.{arith}
 use lib.ListN.{length-map}
 use borrow.Author.Needs.{needs}
-use Rattle.rules.specs.Walk.{restOf}
-use Rattle.rules.proofs.Way.{took, goes-on, went-to, went-on, took-in}
-use Prim.Native.Nat.{ℕ, _<_}
 use borrow.Fn.Kinds.{In}
 use borrow.Fn.PlainCycle.{Measures, is, falls, and}
+use Rattle.rules.specs.Walk.{restOf, Took}
+use Rattle.rules.proofs.Way.{not-nothing, took, goes-on, went-to, went-on, took-in}
 use Rattle.rules.proofs.check_block.Reads as check-block
 use Rattle.rules.proofs.check_block.Kinds as check-block-kinds
-use Rattle.rules.proofs.+check_block+check_item.Lts-check_block as check-block-lts
+use Rattle.rules.proofs.+check_block+check_item.Lts-check_block as block
 use Rattle.rules.proofs.check_item.Reads as check-item
 use Rattle.rules.proofs.check_item.Kinds as check-item-kinds
-use Rattle.rules.proofs.+check_block+check_item.Lts-check_item as check-item-lts
-use Rattle.rules.proofs.take_item.Reads as take-item-reads
-use Rattle.table.proofs.is_open.Reads as is-open-reads
+use Rattle.rules.proofs.+check_block+check_item.Lts-check_item as item
+use Rattle.rules.proofs.take_item.Reads as take-item
+use Rattle.table.proofs.is_open.Reads as is-open
 use Rattle.rules.proofs.+check_block+check_item.{statement}
 use Rattle.rules.proofs.+check_block+check_item.Tie.{close}
 
-abbrev μ-check-block : Measures 0 check-block-kinds.ps ℕ
-μ-check-block κs a = 2 * (a .0 .count - a .1 .1 .0) + 1
+abbrev μ-block : Measures 0 check-block-kinds.ps ℕ
+μ-block κs a = 2 * (a .0 .count - a .1 .1 .0) + 1
 
-abbrev μ-check-item : Measures 0 check-item-kinds.ps ℕ
-μ-check-item κs a = 2 * (a .0 .count - a .1 .1 .0)
+abbrev μ-item : Measures 0 check-item-kinds.ps ℕ
+μ-item κs a = 2 * (a .0 .count - a .1 .1 .0)
 
-abbrev check-block-at : ℕ → In 0 check-block-kinds.ps
-check-block-at t =
-    and 0 check-block-kinds.ps (is 0 check-block-kinds.ps μ-check-block t) check-block.Pre
-
-abbrev check-block-below : ℕ → In 0 check-block-kinds.ps
-check-block-below t =
-    and 0 check-block-kinds.ps (falls 0 check-block-kinds.ps _<_ μ-check-block t) check-block.Pre
-
-abbrev check-item-at : ℕ → In 0 check-item-kinds.ps
-check-item-at t =
-    and 0 check-item-kinds.ps (is 0 check-item-kinds.ps μ-check-item t) check-item.Pre
-
-abbrev check-item-below : ℕ → In 0 check-item-kinds.ps
-check-item-below t =
-    and 0 check-item-kinds.ps (falls 0 check-item-kinds.ps _<_ μ-check-item t) check-item.Pre
-
-abbrev check-block-Inv-loop : check-block-lts.InvT-loop
-check-block-Inv-loop script kinds at count depth i₀ standing₀ i standing =
+abbrev Inv-loop : block.InvT-loop
+Inv-loop script kinds at count depth i₀ standing₀ i standing =
     (i₀ ≤ i) × (i ≤ count) × (standing .depth ≤ 8) × (restOf script kinds i standing ≡ restOf script kinds i₀ standing₀)
 
-abbrev check-block-μ-loop : check-block-lts.MeasureT-loop
-check-block-μ-loop script kinds at count depth i₀ standing₀ i standing = count - i
+abbrev μ-loop : block.MeasureT-loop
+μ-loop script kinds at count depth i₀ standing₀ i standing = count - i
 
-check-block-loop-holds : (t : ℕ) → check-block-lts.Need-loop-holds (
-  check-item-below t,
-  check-item.Post,
-) (check-block-at t) check-block.Post check-block-Inv-loop check-block-μ-loop
-check-block-loop-holds t c = (omega arith, omega arith, omega arith, refl)
+-- where the measure is t, what is asked of each function, and what each may take from the other, at a smaller measure
+module _ (t : ℕ) where
+  abbrev block-at : In 0 check-block-kinds.ps
+  block-at = and 0 check-block-kinds.ps (is 0 check-block-kinds.ps μ-block t) check-block.Pre
 
-check-block-check-item-requires : (t : ℕ) → check-block-lts.Need-check-item-requires (
-  check-item-below t,
-  check-item.Post,
-) (check-block-at t) check-block.Post check-block-Inv-loop check-block-μ-loop
-check-block-check-item-requires t c κs = omega arith
+  abbrev block-below : In 0 check-block-kinds.ps
+  block-below = and 0 check-block-kinds.ps (falls 0 check-block-kinds.ps _<_ μ-block t) check-block.Pre
 
-check-block-enum-told : (t : ℕ) → check-block-lts.Need-enum-told (
-  check-item-below t,
-  check-item.Post,
-) (check-block-at t) check-block.Post check-block-Inv-loop check-block-μ-loop
-check-block-enum-told t c = search needs
+  abbrev item-at : In 0 check-item-kinds.ps
+  item-at = and 0 check-item-kinds.ps (is 0 check-item-kinds.ps μ-item t) check-item.Pre
 
-check-block-returns :
-    (t : ℕ) →
-    check-block-lts.Need-returns
-    (check-item-below t, check-item.Post)
-    (check-block-at t)
-    check-block.Post
-    check-block-Inv-loop
-    check-block-μ-loop
-check-block-returns t c = went-on (c .before .before .before .before .loop .inv .0) (c .before .before .before .before .loop .inv .3) (c .before .before .check-item .ensures .went)
+  abbrev item-below : In 0 check-item-kinds.ps
+  item-below = and 0 check-item-kinds.ps (falls 0 check-item-kinds.ps _<_ μ-item t) check-item.Pre
 
-check-block-enum-told-2 : (t : ℕ) → check-block-lts.Need-enum-told-2 (
-  check-item-below t,
-  check-item.Post,
-) (check-block-at t) check-block.Post check-block-Inv-loop check-block-μ-loop
-check-block-enum-told-2 t c = search needs
+  abbrev block-claims : block.Claims
+  block-claims = (item-below, check-item.Post)
 
-check-block-returns-2 : (t : ℕ) → check-block-lts.Need-returns-2 (
-  check-item-below t,
-  check-item.Post,
-) (check-block-at t) check-block.Post check-block-Inv-loop check-block-μ-loop
-check-block-returns-2 t c = went-on (c .before .before .before .before .before .before .loop .inv .0) (c .before .before .before .before .before .before .loop .inv .3) (c .before .before .before .before .check-item .ensures .went)
+  abbrev item-claims : item.Claims
+  item-claims = (take-item.Asked, take-item.Learnt, is-open.Asked, is-open.Learnt, block-below, check-block.Post)
 
-check-block-loop-less : (t : ℕ) → check-block-lts.Need-loop-less (
-  check-item-below t,
-  check-item.Post,
-) (check-block-at t) check-block.Post check-block-Inv-loop check-block-μ-loop
-check-block-loop-less t c = omega (arith, c .before .before .before .before .check-item .ensures .later (c .before .before .enum-told2 .given .1))
+  block-loop-holds : block.Need-loop-holds block-claims block-at check-block.Post Inv-loop μ-loop
+  block-loop-holds c = (omega arith, omega arith, omega arith, refl)
 
-check-block-loop-again : (t : ℕ) → check-block-lts.Need-loop-again (
-  check-item-below t,
-  check-item.Post,
-) (check-block-at t) check-block.Post check-block-Inv-loop check-block-μ-loop
-check-block-loop-again t c = (
-  omega (arith, c .before .before .before .before .check-item .ensures .went .ahead, c .before .before .before .before .before .before .loop .inv .0),
-  c .before .before .before .before .check-item .ensures .went .within,
-  c .before .before .before .before .check-item .ensures .went .depth,
-  goes-on (c .before .before .before .before .check-item .ensures .went) (c .before .before .enum-told2 .given .1) ∙ c .before .before .before .before .before .before .loop .inv .3,
-)
+  block-check-item-requires : block.Need-check-item-requires block-claims block-at check-block.Post Inv-loop μ-loop
+  block-check-item-requires c κs = omega arith
 
-check-block-returns-3 : (t : ℕ) → check-block-lts.Need-returns-3 (
-  check-item-below t,
-  check-item.Post,
-) (check-block-at t) check-block.Post check-block-Inv-loop check-block-μ-loop
-check-block-returns-3 t c = went-to (c .before .loop .inv .0) (c .before .loop .inv .1) (c .before .loop .inv .2) (c .before .loop .inv .3)
+  block-enum-told : block.Need-enum-told block-claims block-at check-block.Post Inv-loop μ-loop
+  block-enum-told c = search needs
 
-check-item-mul-slot : (t : ℕ) → check-item-lts.Need-mul-slot (
-  take-item-reads.Asked,
-  take-item-reads.Learnt,
-  is-open-reads.Asked,
-  is-open-reads.Learnt,
-  check-block-below t,
-  check-block.Post,
-) (check-item-at t) check-item.Post
-check-item-mul-slot t c = search needs
+  block-returns : block.Need-returns block-claims block-at check-block.Post Inv-loop μ-loop
+  block-returns c = record {
+    went = went-on (c .before .before .before .before .loop .inv .0) (c .before .before .before .before .loop .inv .3) (c .before .before .check-item .ensures .went);
+    whole = λ n z. not-nothing (c .enum-told .given .1) n;
+  }
 
-check-item-element-copy-out-slot : (t : ℕ) → check-item-lts.Need-element-copy-out-slot (
-  take-item-reads.Asked,
-  take-item-reads.Learnt,
-  is-open-reads.Asked,
-  is-open-reads.Learnt,
-  check-block-below t,
-  check-block.Post,
-) (check-item-at t) check-item.Post
-check-item-element-copy-out-slot t c = search needs
+  block-enum-told-2 : block.Need-enum-told-2 block-claims block-at check-block.Post Inv-loop μ-loop
+  block-enum-told-2 c = search needs
 
-check-item-take-item-requires : (t : ℕ) → check-item-lts.Need-take-item-requires (
-  take-item-reads.Asked,
-  take-item-reads.Learnt,
-  is-open-reads.Asked,
-  is-open-reads.Learnt,
-  check-block-below t,
-  check-block.Post,
-) (check-item-at t) check-item.Post
-check-item-take-item-requires t c κs = omega arith
+  block-returns-2 : block.Need-returns-2 block-claims block-at check-block.Post Inv-loop μ-loop
+  block-returns-2 c = record {
+    went = went-on (c .before .before .before .before .before .before .loop .inv .0) (c .before .before .before .before .before .before .loop .inv .3) (c .before .before .before .before .check-item .ensures .went);
+    whole = λ n z. omega arith;
+  }
 
-check-item-enum-told : (t : ℕ) → check-item-lts.Need-enum-told (
-  take-item-reads.Asked,
-  take-item-reads.Learnt,
-  is-open-reads.Asked,
-  is-open-reads.Learnt,
-  check-block-below t,
-  check-block.Post,
-) (check-item-at t) check-item.Post
-check-item-enum-told t c = search needs
+  block-loop-less : block.Need-loop-less block-claims block-at check-block.Post Inv-loop μ-loop
+  block-loop-less c = omega (arith, c .before .before .before .before .check-item .ensures .later (c .before .before .enum-told2 .given .1))
 
-check-item-enum-told-2 : (t : ℕ) → check-item-lts.Need-enum-told-2 (
-  take-item-reads.Asked,
-  take-item-reads.Learnt,
-  is-open-reads.Asked,
-  is-open-reads.Learnt,
-  check-block-below t,
-  check-block.Post,
-) (check-item-at t) check-item.Post
-check-item-enum-told-2 t c = search needs
+  block-loop-again : block.Need-loop-again block-claims block-at check-block.Post Inv-loop μ-loop
+  block-loop-again c = (
+    omega (arith, c .before .before .before .before .check-item .ensures .went .ahead, c .before .before .before .before .before .before .loop .inv .0),
+    c .before .before .before .before .check-item .ensures .went .within,
+    c .before .before .before .before .check-item .ensures .went .depth,
+    goes-on (c .before .before .before .before .check-item .ensures .went) (c .before .before .enum-told2 .given .1) ∙ c .before .before .before .before .before .before .loop .inv .3,
+  )
 
-check-item-is-open-requires : (t : ℕ) → check-item-lts.Need-is-open-requires (
-  take-item-reads.Asked,
-  take-item-reads.Learnt,
-  is-open-reads.Asked,
-  is-open-reads.Learnt,
-  check-block-below t,
-  check-block.Post,
-) (check-item-at t) check-item.Post
-check-item-is-open-requires t c κs = search needs
+  block-returns-3 : block.Need-returns-3 block-claims block-at check-block.Post Inv-loop μ-loop
+  block-returns-3 c = record {
+    went = went-to (c .before .loop .inv .0) (c .before .loop .inv .1) (c .before .loop .inv .2) (c .before .loop .inv .3);
+    whole = λ n z. omega arith;
+  }
 
-check-item-returns : (t : ℕ) → check-item-lts.Need-returns (
-  take-item-reads.Asked,
-  take-item-reads.Learnt,
-  is-open-reads.Asked,
-  is-open-reads.Learnt,
-  check-block-below t,
-  check-block.Post,
-) (check-item-at t) check-item.Post
-check-item-returns t c = took (c .before .before .before .before .before .before .args .t1) (c .before .before .before .before .before .before .args .kinds) (c .before .before .before .before .before .before .args .at) (c .before .before .before .before .before .before .args .s) _ (c .before .before .before .before .take-item .result)
-    (c .before .before .before .before .before .before .pre .1 .1) (omega (arith, simp length-map at (c .before .before .before .before .before .before .good .0 .1 .1 .0 .1 .0 .1), c .before .before .before .before .before .before .pre .1 .0)) refl (c .before .before .before .before .take-item .ensures)
+  -- the item is taken: every way out of the function goes on from there
+  taken : (c : item.After-take-item item-claims item-at check-item.Post) → Took (c .before .before .args .t1) (c .before .before .args .kinds) (c .before .before .args .at) (c .before .before .args .s) (c .take-item .result)
+  taken c = took (c .before .before .args .t1) (c .before .before .args .kinds) (c .before .before .args .at) (c .before .before .args .s) _ (c .take-item .result)
+      (c .before .before .pre .1 .1) (omega (arith, simp length-map at (c .before .before .good .0 .1 .1 .0 .1 .0 .1), c .before .before .pre .1 .0)) refl (c .take-item .ensures)
 
-check-item-check-block-requires : (t : ℕ) → check-item-lts.Need-check-block-requires (
-  take-item-reads.Asked,
-  take-item-reads.Learnt,
-  is-open-reads.Asked,
-  is-open-reads.Learnt,
-  check-block-below t,
-  check-block.Post,
-) (check-item-at t) check-item.Post
-check-item-check-block-requires t c κs = omega (arith, c .before .before .before .before .before .take-item .ensures .goes (c .before .before .before .enum-told2 .given .1), c .before .before .before .before .before .take-item .ensures .depth, c .before .before .before .before .before .before .before .pre .0, c .before .before .before .before .before .before .before .pre .1 .0, c .before .before .before .before .before .before .before .pre .1 .1)
+  item-mul-slot : item.Need-mul-slot item-claims item-at check-item.Post
+  item-mul-slot c = search needs
 
-check-item-returns-2 : (t : ℕ) → check-item-lts.Need-returns-2 (
-  take-item-reads.Asked,
-  take-item-reads.Learnt,
-  is-open-reads.Asked,
-  is-open-reads.Learnt,
-  check-block-below t,
-  check-block.Post,
-) (check-item-at t) check-item.Post
-check-item-returns-2 t c = took (c .before .before .before .before .args .t1) (c .before .before .before .before .args .kinds) (c .before .before .before .before .args .at) (c .before .before .before .before .args .s) _ (c .before .before .take-item .result)
-    (c .before .before .before .before .pre .1 .1) (omega (arith, simp length-map at (c .before .before .before .before .good .0 .1 .1 .0 .1 .0 .1), c .before .before .before .before .pre .1 .0)) refl (c .before .before .take-item .ensures)
+  item-element-copy-out-slot : item.Need-element-copy-out-slot item-claims item-at check-item.Post
+  item-element-copy-out-slot c = search needs
 
-check-item-returns-3 : (t : ℕ) → check-item-lts.Need-returns-3 (
-  take-item-reads.Asked,
-  take-item-reads.Learnt,
-  is-open-reads.Asked,
-  is-open-reads.Learnt,
-  check-block-below t,
-  check-block.Post,
-) (check-item-at t) check-item.Post
-check-item-returns-3 t c = took-in (took (c .before .before .before .before .before .before .before .before .args .t1) (c .before .before .before .before .before .before .before .before .args .kinds) (c .before .before .before .before .before .before .before .before .args .at) (c .before .before .before .before .before .before .before .before .args .s) _ (c .before .before .before .before .before .before .take-item .result)
-    (c .before .before .before .before .before .before .before .before .pre .1 .1) (omega (arith, simp length-map at (c .before .before .before .before .before .before .before .before .good .0 .1 .1 .0 .1 .0 .1), c .before .before .before .before .before .before .before .before .pre .1 .0)) refl (c .before .before .before .before .before .before .take-item .ensures))
-    (c .before .before .before .before .enum-told2 .given .1) (c .check-block .ensures)
+  item-take-item-requires : item.Need-take-item-requires item-claims item-at check-item.Post
+  item-take-item-requires c κs = omega arith
+
+  item-enum-told : item.Need-enum-told item-claims item-at check-item.Post
+  item-enum-told c = search needs
+
+  item-enum-told-2 : item.Need-enum-told-2 item-claims item-at check-item.Post
+  item-enum-told-2 c = search needs
+
+  item-is-open-requires : item.Need-is-open-requires item-claims item-at check-item.Post
+  item-is-open-requires c κs = search needs
+
+  item-returns : item.Need-returns item-claims item-at check-item.Post
+  item-returns c = taken (c .before .before .before .before)
+
+  item-check-block-requires : item.Need-check-block-requires item-claims item-at check-item.Post
+  item-check-block-requires c κs = omega (arith, c .before .before .before .before .before .take-item .ensures .goes (c .before .before .before .enum-told2 .given .1), c .before .before .before .before .before .take-item .ensures .depth, c .before .before .before .before .before .before .before .pre .0, c .before .before .before .before .before .before .before .pre .1 .0, c .before .before .before .before .before .before .before .pre .1 .1)
+
+  item-returns-2 : item.Need-returns-2 item-claims item-at check-item.Post
+  item-returns-2 c = taken (c .before .before)
+
+  item-returns-3 : item.Need-returns-3 item-claims item-at check-item.Post
+  item-returns-3 c = took-in (taken (c .before .before .before .before .before .before)) (c .before .before .before .before .enum-told2 .given .1) (c .check-block .ensures .went)
 
 pub +check-block+check-item-spec : {M : Type 1} → statement M
-+check-block+check-item-spec = close μ-check-block μ-check-item (λ t. check-block-lts.spec (
-  check-item-below t,
-  check-item.Post,
-)
-    (check-block-at t)
-    check-block.Post
-    check-block-Inv-loop
-    check-block-μ-loop
-    (check-block-loop-holds t)
-    (check-block-check-item-requires t)
-    (check-block-enum-told t)
-    (check-block-returns t)
-    (check-block-enum-told-2 t)
-    (check-block-returns-2 t)
-    (check-block-loop-less t)
-    (check-block-loop-again t)
-    (check-block-returns-3 t))
-    λ t. check-item-lts.spec (
-      take-item-reads.Asked,
-      take-item-reads.Learnt,
-      is-open-reads.Asked,
-      is-open-reads.Learnt,
-      check-block-below t,
-      check-block.Post,
-    )
-    (check-item-at t)
-    check-item.Post
-    (check-item-mul-slot t)
-    (check-item-element-copy-out-slot t)
-    (check-item-take-item-requires t)
-    (check-item-enum-told t)
-    (check-item-enum-told-2 t)
-    (check-item-is-open-requires t)
-    (check-item-returns t)
-    (check-item-check-block-requires t)
-    (check-item-returns-2 t)
-    (check-item-returns-3 t)
++check-block+check-item-spec = close μ-block μ-item
+    (λ t. block.spec (block-claims t) (block-at t) check-block.Post Inv-loop μ-loop
+    (block-loop-holds t) (block-check-item-requires t) (block-enum-told t) (block-returns t) (block-enum-told-2 t)
+    (block-returns-2 t) (block-loop-less t) (block-loop-again t) (block-returns-3 t))
+    λ t. item.spec (item-claims t) (item-at t) check-item.Post
+    (item-mul-slot t) (item-element-copy-out-slot t) (item-take-item-requires t) (item-enum-told t)
+    (item-enum-told-2 t) (item-is-open-requires t) (item-returns t) (item-check-block-requires t)
+    (item-returns-2 t) (item-returns-3 t)
