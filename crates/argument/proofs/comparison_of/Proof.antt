@@ -1,14 +1,10 @@
-use mathlib.Core.Path.{_≡_, refl}
+use mathlib.Core.Path.{refl}
 use mathlib.Core.List.{List, [], _∷_}
 use Prim.Native.Nat.{ℕ}
-use types.Run.{OneOf, miss}
-use denote.Enum.Declared.{tagOf}
+use types.Run.{miss}
 use Rattle.value.specs.declared.Comparison.the-variants.{Equal as equal}
-use Rattle.table.specs.declared.Text.{Text}
-use Rattle.argument.specs.declared.Argument.{Argument}
-use Rattle.argument.specs.declared.Argument.the-variants as A
 use Rattle.argument.specs.Argument.{comparisonOf}
-use Rattle.argument.proofs.Argument.{the-type}
+use Rattle.argument.proofs.Apart.{Each, by-tag}
 use borrow.Author.Needs.{needs}
 use Rattle.argument.proofs.comparison_of.Statement.{statement}
 use Rattle.argument.proofs.comparison_of.Tie as tie
@@ -17,16 +13,8 @@ use Rattle.argument.proofs.comparison_of.Tie as tie
 abbrev others : List ℕ
 others = 0 ∷ 1 ∷ 2 ∷ 3 ∷ 4 ∷ 5 ∷ 7 ∷ 8 ∷ []
 
-rest : (x : Argument) → OneOf others (tagOf the-type x) → equal ≡ comparisonOf x
-rest A.Nothing k = refl
-rest (A.Name y) k = refl
-rest (A.Operand y) k = refl
-rest (A.Literal y) k = refl
-rest (A.Letters y) k = refl
-rest (A.Number y) k = refl
-rest (A.Comparison y) k = absurd (miss others 6 tt k)
-rest (A.Text y) k = refl
-rest (A.Wrong y) k = refl
+rest : Each comparisonOf equal others
+rest = (λ k. refl, λ y k. refl, λ y k. refl, λ y k. refl, λ y k. refl, λ y k. refl, λ y k. absurd (miss others 6 tt k), λ y k. refl, λ y k. refl)
 
 enum-known-x : tie.Need-enum-known-x
 enum-known-x c = search needs
@@ -35,7 +23,7 @@ returns : tie.Need-returns
 returns c = search needs
 
 returns-2 : tie.Need-returns-2
-returns-2 c = rest (c .before .args .x) (c .match .keys2)
+returns-2 c = by-tag comparisonOf equal others rest (c .before .args .x) (c .match .keys2)
 
 pub comparison-of-spec : {M : Type 1} → statement M
 comparison-of-spec = tie.close (tie.spec enum-known-x returns returns-2)

@@ -1,13 +1,9 @@
-use mathlib.Core.Path.{_≡_, refl}
+use mathlib.Core.Path.{refl}
 use mathlib.Core.List.{List, [], _∷_}
 use Prim.Native.Nat.{ℕ}
-use types.Run.{OneOf, miss}
-use denote.Enum.Declared.{tagOf}
-use Rattle.table.specs.declared.Text.{Text}
-use Rattle.argument.specs.declared.Argument.{Argument}
-use Rattle.argument.specs.declared.Argument.the-variants as A
+use types.Run.{miss}
 use Rattle.argument.specs.Argument.{nameOf}
-use Rattle.argument.proofs.Argument.{the-type}
+use Rattle.argument.proofs.Apart.{Each, by-tag}
 use borrow.Author.Needs.{needs}
 use Rattle.argument.proofs.name_of.Statement.{statement}
 use Rattle.argument.proofs.name_of.Tie as tie
@@ -16,16 +12,8 @@ use Rattle.argument.proofs.name_of.Tie as tie
 abbrev others : List ℕ
 others = 0 ∷ 2 ∷ 3 ∷ 4 ∷ 5 ∷ 6 ∷ 7 ∷ 8 ∷ []
 
-rest : (x : Argument) → OneOf others (tagOf the-type x) → 0 ≡ nameOf x
-rest A.Nothing k = refl
-rest (A.Name y) k = absurd (miss others 1 tt k)
-rest (A.Operand y) k = refl
-rest (A.Literal y) k = refl
-rest (A.Letters y) k = refl
-rest (A.Number y) k = refl
-rest (A.Comparison y) k = refl
-rest (A.Text y) k = refl
-rest (A.Wrong y) k = refl
+rest : Each nameOf 0 others
+rest = (λ k. refl, λ y k. absurd (miss others 1 tt k), λ y k. refl, λ y k. refl, λ y k. refl, λ y k. refl, λ y k. refl, λ y k. refl, λ y k. refl)
 
 enum-known-x : tie.Need-enum-known-x
 enum-known-x c = search needs
@@ -34,7 +22,7 @@ returns : tie.Need-returns
 returns c = search needs
 
 returns-2 : tie.Need-returns-2
-returns-2 c = rest (c .before .args .x) (c .match .keys2)
+returns-2 c = by-tag nameOf 0 others rest (c .before .args .x) (c .match .keys2)
 
 pub name-of-spec : {M : Type 1} → statement M
 name-of-spec = tie.close (tie.spec enum-known-x returns returns-2)

@@ -1,15 +1,11 @@
-use mathlib.Core.Path.{_≡_, refl}
+use mathlib.Core.Path.{refl}
 use mathlib.Core.List.{List, [], _∷_}
 use Prim.Native.Nat.{ℕ}
 use lib.IntN.{pos}
-use types.Run.{OneOf, miss}
-use denote.Enum.Declared.{tagOf}
+use types.Run.{miss}
 use Rattle.value.specs.declared.Value.the-variants.{Whole as whole}
-use Rattle.table.specs.declared.Text.{Text}
-use Rattle.argument.specs.declared.Argument.{Argument}
-use Rattle.argument.specs.declared.Argument.the-variants as A
 use Rattle.argument.specs.Argument.{valueOf}
-use Rattle.argument.proofs.Argument.{the-type}
+use Rattle.argument.proofs.Apart.{Each, by-tag}
 use borrow.Author.Needs.{needs}
 use Rattle.argument.proofs.value_of.Statement.{statement}
 use Rattle.argument.proofs.value_of.Tie as tie
@@ -18,16 +14,8 @@ use Rattle.argument.proofs.value_of.Tie as tie
 abbrev others : List ℕ
 others = 0 ∷ 1 ∷ 2 ∷ 4 ∷ 5 ∷ 6 ∷ 7 ∷ 8 ∷ []
 
-rest : (x : Argument) → OneOf others (tagOf the-type x) → whole (pos 0) ≡ valueOf x
-rest A.Nothing k = refl
-rest (A.Name y) k = refl
-rest (A.Operand y) k = refl
-rest (A.Literal y) k = absurd (miss others 3 tt k)
-rest (A.Letters y) k = refl
-rest (A.Number y) k = refl
-rest (A.Comparison y) k = refl
-rest (A.Text y) k = refl
-rest (A.Wrong y) k = refl
+rest : Each valueOf (whole (pos 0)) others
+rest = (λ k. refl, λ y k. refl, λ y k. refl, λ y k. absurd (miss others 3 tt k), λ y k. refl, λ y k. refl, λ y k. refl, λ y k. refl, λ y k. refl)
 
 enum-known-x : tie.Need-enum-known-x
 enum-known-x c = search needs
@@ -36,7 +24,7 @@ returns : tie.Need-returns
 returns c = search needs
 
 returns-2 : tie.Need-returns-2
-returns-2 c = rest (c .before .args .x) (c .match .keys2)
+returns-2 c = by-tag valueOf (whole (pos 0)) others rest (c .before .args .x) (c .match .keys2)
 
 pub value-of-spec : {M : Type 1} → statement M
 value-of-spec = tie.close (tie.spec enum-known-x returns returns-2)
