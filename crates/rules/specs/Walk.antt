@@ -39,8 +39,3 @@ pub record Went (t : Script) (k : Kinds) (i : ℕ) (s : Standing) (r : Walk) : T
 pub record Took (t : Script) (k : Kinds) (i : ℕ) (s : Standing) (r : Walk) : Type 0 where
   pub went : Went t k i s r
   pub later : r .finding ≡ Nothing → i < r .at
-
--- and where nothing was found and no box is around, it is at the end
-pub record Passed (t : Script) (k : Kinds) (i : ℕ) (s : Standing) (r : Walk) : Type 0 where
-  pub went : Went t k i s r
-  pub whole : r .finding ≡ Nothing → s .depth ≡ 0 → t .count ≤ r .at

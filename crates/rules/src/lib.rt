@@ -11,7 +11,7 @@ ghost use Rattle.table.specs.Shape.{itemsOf};
 ghost use Rattle.rules.specs.Check.{begin, both, put, orElse, learn, kindsOf, anyBox, base, misplaced, twice, isEmpty, refusals, refusalsAtEnd, left, closed, everything, after, walk, lineOf, verdict};
 ghost use Rattle.rules.specs.Standing.{stateOf, rowsOf, asked, fitsInnermost, elseSeen, afterWrites};
 ghost use Rattle.rules.specs.Verdict.{numberOf, found, meaning};
-ghost use Rattle.rules.specs.Walk.{outcome, Taken, Took, Passed};
+ghost use Rattle.rules.specs.Walk.{outcome, Taken, Went, Took};
 use table::Branch;
 use table::Give;
 use table::Gives;
@@ -688,7 +688,7 @@ fn check_item(script: Script, kinds: [Known; NAMES], at: usize, s: Standing) -> 
 // A row of items, its branches among them, up to and with the closing mark of the box around it.
 fn check_block(script: Script, kinds: [Known; NAMES], at: usize, s: Standing) -> Walk
     requires { ⌜ (script .count ≤ 128) × (at ≤ script .count) × (s .depth ≤ 8) ⌝ }
-    ensures { λ r. ⌜ Passed script kinds at s r ⌝ }
+    ensures { λ r. ⌜ Went script kinds at s r ⌝ }
 {
     let count = script.count;
     let depth = s.depth;
@@ -720,16 +720,22 @@ fn check_row(script: Script, kinds: [Known; NAMES]) -> Walk
     requires { ⌜ script .count ≤ 128 ⌝ }
     ensures { λ r. ⌜ outcome r ≡ walk kinds 0 begin (itemsOf script) ⌝ }
 {
-    let r = check_block(script, kinds, 0, start());
-    let finding = r.finding;
-    if let Finding::Broken(_) = finding {
-        return r;
+    let count = script.count;
+    let mut i: usize = 0;
+    let mut standing = start();
+    while i < count {
+        let r = check_item(script, kinds, i, standing);
+        let finding = r.finding;
+        if let Finding::Broken(_) = finding {
+            return r;
+        }
+        let next = r.standing;
+        i = r.at;
+        standing = next;
     }
-    let at = r.at;
-    let standing = r.standing;
     let last = judge_end(standing);
     Walk {
-        at: at,
+        at: i,
         finding: last,
         standing: standing,
     }

@@ -6,7 +6,7 @@ use borrow.Author.Needs.{needs}
 use borrow.Fn.Kinds.{In}
 use borrow.Fn.PlainCycle.{Measures, is, falls, and}
 use Rattle.rules.specs.Walk.{restOf, Took}
-use Rattle.rules.proofs.Way.{not-nothing, took, goes-on, went-to, went-on, took-in}
+use Rattle.rules.proofs.Way.{took, goes-on, went-to, went-on, took-in}
 use Rattle.rules.proofs.check_block.Reads as check-block
 use Rattle.rules.proofs.check_block.Kinds as check-block-kinds
 use Rattle.rules.proofs.+check_block+check_item.Lts-check_block as block
@@ -61,19 +61,13 @@ module _ (t : ℕ) where
   block-enum-told c = search needs
 
   block-returns : block.Need-returns block-claims block-at check-block.Post Inv-loop μ-loop
-  block-returns c = record {
-    went = went-on (c .before .before .before .before .loop .inv .0) (c .before .before .before .before .loop .inv .3) (c .before .before .check-item .ensures .went);
-    whole = λ n z. not-nothing (c .enum-told .given .1) n;
-  }
+  block-returns c = went-on (c .before .before .before .before .loop .inv .0) (c .before .before .before .before .loop .inv .3) (c .before .before .check-item .ensures .went)
 
   block-enum-told-2 : block.Need-enum-told-2 block-claims block-at check-block.Post Inv-loop μ-loop
   block-enum-told-2 c = search needs
 
   block-returns-2 : block.Need-returns-2 block-claims block-at check-block.Post Inv-loop μ-loop
-  block-returns-2 c = record {
-    went = went-on (c .before .before .before .before .before .before .loop .inv .0) (c .before .before .before .before .before .before .loop .inv .3) (c .before .before .before .before .check-item .ensures .went);
-    whole = λ n z. omega arith;
-  }
+  block-returns-2 c = went-on (c .before .before .before .before .before .before .loop .inv .0) (c .before .before .before .before .before .before .loop .inv .3) (c .before .before .before .before .check-item .ensures .went)
 
   block-loop-less : block.Need-loop-less block-claims block-at check-block.Post Inv-loop μ-loop
   block-loop-less c = omega (arith, c .before .before .before .before .check-item .ensures .later (c .before .before .enum-told2 .given .1))
@@ -87,10 +81,7 @@ module _ (t : ℕ) where
   )
 
   block-returns-3 : block.Need-returns-3 block-claims block-at check-block.Post Inv-loop μ-loop
-  block-returns-3 c = record {
-    went = went-to (c .before .loop .inv .0) (c .before .loop .inv .1) (c .before .loop .inv .2) (c .before .loop .inv .3);
-    whole = λ n z. omega arith;
-  }
+  block-returns-3 c = went-to (c .before .loop .inv .0) (c .before .loop .inv .1) (c .before .loop .inv .2) (c .before .loop .inv .3)
 
   -- the item is taken: every way out of the function goes on from there
   taken : (c : item.After-take-item item-claims item-at check-item.Post) → Took (c .before .before .args .t1) (c .before .before .args .kinds) (c .before .before .args .at) (c .before .before .args .s) (c .take-item .result)
@@ -125,7 +116,7 @@ module _ (t : ℕ) where
   item-returns-2 c = taken (c .before .before)
 
   item-returns-3 : item.Need-returns-3 item-claims item-at check-item.Post
-  item-returns-3 c = took-in (taken (c .before .before .before .before .before .before)) (c .before .before .before .before .enum-told2 .given .1) (c .check-block .ensures .went)
+  item-returns-3 c = took-in (taken (c .before .before .before .before .before .before)) (c .before .before .before .before .enum-told2 .given .1) (c .check-block .ensures)
 
 pub +check-block+check-item-spec : {M : Type 1} → statement M
 +check-block+check-item-spec = close μ-block μ-item
