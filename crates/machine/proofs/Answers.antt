@@ -1,16 +1,18 @@
 -- The three ways of a step, and what settles its answer.
+use mathlib.Core.List.{[]}
 use Prim.Native.Nat.{ℕ}
-use mathlib.Core.Path.{_≡_, refl, sym, ap, subst, _∙_}
-use mathlib.Core.Bool.{Bool, true, false, _&&_, cond}
-use mathlib.Core.List.{List, []}
+use mathlib.Core.Path.{_≡_, sym, ap, subst, _∙_}
+use mathlib.Core.Bool.{Bool, true, false}
 use native.Mathlib.Omega.{arith}
 use Rattle.table.specs.declared.Script.{Script}
 use Rattle.table.specs.Shape.{inShape, itemsOf}
-use Rattle.machine.specs.Machine.{Run, Step, Control, Offer, runOk, shapeless, again, moved, told, step}
-use Rattle.machine.specs.Meaning.{State, Stepped, runOf, meaning}
+use Rattle.state.specs.State.{Run, Step}
+use Rattle.machine.specs.Words.{Control, Offer, State, Stepped}
+use Rattle.machine.specs.Machine.{runOk, shapeless, again, moved, told, step}
+use Rattle.state.specs.Meaning.{runOf}
 use Rattle.machine.specs.Exact.{Exact}
 use Rattle.machine.specs.Settle.{Faithful, Settled}
-use Rattle.machine.proofs.Tests.{and-no}
+use Rattle.state.proofs.Tests.{and-no}
 use Rattle.machine.proofs.Keeping.{again-faithful}
 
 module _ (size : ℕ) (s : Script) (m : Run) (c : Control) (o : Offer) where

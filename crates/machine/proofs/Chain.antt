@@ -1,10 +1,9 @@
 -- The mates that a false condition tries, one after the other.
 use Prim.Native.Nat.{ℕ, zero, suc, _+_, _-_, _≤_, _<_}
 use mathlib.Core.Path.{_≡_, refl, sym, ap, _∙_}
-use mathlib.Core.Bool.{Bool, true, false, cond}
+use mathlib.Core.Bool.{true, false}
 use mathlib.Core.List.{List, [], _∷_}
-use native.Mathlib.Nat.{not-suc-le-zero, le-of-suc-le-suc, le-trans}
-use native.Mathlib.Omega.{arith}
+use native.Mathlib.Nat.{not-suc-le-zero, le-of-suc-le-suc}
 use native.Mathlib.Numerals.{add-one}
 use lib.ListN.{length, getD, drop, drop-of-length-le}
 use lib.Seq.{drop-cons}
@@ -13,15 +12,16 @@ use Rattle.table.specs.declared.Item.{Item}
 use Rattle.table.specs.declared.Item.the-variants.{Branch as branch, Tag as tag}
 use Rattle.table.specs.declared.Branch.the-variants.{ElseIf as elseif}
 use Rattle.table.specs.declared.Slot.{Slot}
-use Rattle.table.specs.declared.Script.{Script}
 use Rattle.table.specs.Uses.{first, conditionUses}
-use Rattle.table.specs.Shape.{itemsIn, itemsOf, noSlot, slotAt}
-use Rattle.mates.specs.Mates.{boxesAt, itemAt}
-use Rattle.machine.specs.Machine.{Vars, Chosen, into, bad, readFaults, holds, tried, choose}
-use Rattle.machine.specs.Meaning.{Fault, faultNumber, unwrittenFault, kindFault, boxFault, depthFault, packageFault}
+use Rattle.table.specs.Shape.{itemsIn, noSlot}
+use Rattle.mates.specs.Mates.{boxesAt}
+use Rattle.state.specs.State.{Vars, holds}
+use Rattle.machine.specs.Machine.{Chosen, into, bad, readFaults, tried, choose}
+use Rattle.machine.specs.Words.{Fault, unwrittenFault, kindFault, boxFault, depthFault, packageFault}
+use Rattle.state.specs.Meaning.{faultNumber}
 use Rattle.machine.specs.Code as code
 use Rattle.machine.specs.Code.{Tried, goes, onward, triedBy, triedAt, chosenOf}
-use Rattle.machine.proofs.Placed.{boxes-suc}
+use Rattle.mates.proofs.Placed.{boxes-suc}
 
 module _ (vs : Vars) (c : Condition) (j : ℕ) (o : Chosen) where
   pub tried-bad : (f : Fault) → first (readFaults vs (conditionUses c)) ≡ faultNumber f → bad (faultNumber f) ≡ tried vs (branch (elseif c)) j o

@@ -1,12 +1,11 @@
 -- A step hands out at most 8 things.
 use Prim.Native.Nat.{ℕ, zero, suc, _+_, _≤_, zero-le}
-use mathlib.Core.Path.{_≡_, refl, sym, ap, _∙_}
+use mathlib.Core.Path.{_≡_, refl}
 use mathlib.Core.Bool.{Bool, true, false, not, _&&_, _||_, cond}
 use mathlib.Core.List.{List, [], _∷_, _++_}
 use mathlib.Core.Option.{Option, none, some}
 use native.Mathlib.Omega.{arith}
 use lib.Dec.{ltb, leb}
-use lib.Ieee.{Float}
 use lib.ListN.{length, drop}
 use borrow.Author.Tests.{leb-true}
 use Rattle.value.specs.declared.Calculated.{Calculated}
@@ -33,7 +32,9 @@ use Rattle.table.specs.Uses.{first, gives}
 use Rattle.table.specs.Shape.{inShape, itemsOf}
 use Rattle.mates.specs.Mates.{itemAt, boxesAt}
 use Rattle.machine.specs.Machine as rules
-use Rattle.machine.specs.Machine.{Run, Status, live, finishedRun, stoppedRun, faultRun, Control, noControl, Z, Y, Offer, nothing, oneFloat, onePoint, done, Out, enters, leaves, Step, Chosen, into, beyond, bad, Meets, ready, short, amiss, cellAt, cellType, valueOf, eb, reading, holds, inside, enterOuts, enter, leave, kept, runAct, runPack, choose, chosen, runPoint, runSweep, runHead, runBranch, runEndloop, runClose, runBreak, unwind, run, asksNothing, meets, served, orFault, finish, faults, tries, atItem, cleared, leaveOuts, tagFrom, aborted, anyOpen, told, moved, again, isEmpty, opensOk, cellsOk, runOk, end-with, keep, write, da, ba, step}
+use Rattle.state.specs.State.{Run, Status, live, finishedRun, stoppedRun, faultRun, enters, leaves, Step, Meets, ready, short, amiss, cellAt, cellType, valueOf, eb, reading, holds, asksNothing, meets, cleared, cellsOk, keep, write, da, ba}
+use Rattle.machine.specs.Words.{Control, noControl, Z, Y, Offer, nothing, oneFloat, onePoint, done}
+use Rattle.machine.specs.Machine.{Chosen, into, beyond, bad, inside, enter, leave, kept, runAct, runPack, choose, chosen, runSweep, runHead, runBranch, runClose, runBreak, unwind, run, served, orFault, finish, faults, tries, atItem, leaveOuts, tagFrom, aborted, anyOpen, told, moved, again, isEmpty, opensOk, runOk, step}
 use Rattle.machine.proofs.Shapes.{and-l, and-r}
 
 abbrev Few : Step → Type 0

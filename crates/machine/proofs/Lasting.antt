@@ -1,6 +1,6 @@
 -- On every table in shape, a step from a state in shape leaves a state in shape: 30 never comes of the machine's own doing.
 use Prim.Native.Nat.{ℕ, zero, suc, _+_, _-_, _≤_, _<_, zero-le}
-use mathlib.Core.Path.{_≡_, refl, sym, ap, subst, _∙_}
+use mathlib.Core.Path.{_≡_, refl, sym, _∙_}
 use mathlib.Core.Bool.{Bool, true, false, not, _&&_, _||_, cond}
 use mathlib.Core.List.{List, [], _∷_}
 use mathlib.Core.Option.{Option, none, some}
@@ -34,14 +34,15 @@ use Rattle.table.specs.declared.Sort.the-variants.{Loop as loopBox, Sweep as sw
 use Rattle.table.specs.declared.Item.{Item}
 use Rattle.table.specs.declared.Item.the-variants.{Act as act, Pack as pack, Open as opens, Branch as branch, Close as closes, Break as breakloop, Tag as tag}
 use Rattle.table.specs.declared.Script.{Script}
-use Rattle.table.specs.Item.{isOpen, isClose, isLoop, isSweep, opensA, sortOf, isTag}
-use Rattle.table.specs.Uses.{first, gives, uses, conditionUses, missing, wrong, breaksOrder}
-use Rattle.table.specs.Shape.{inShape, itemsOf, itemsOk, itemOk, ownOk, wantsOk, givesOk}
+use Rattle.table.specs.Item.{isOpen, isClose, isLoop, isSweep, opensA, sortOf}
+use Rattle.table.specs.Uses.{first, gives, conditionUses, missing, wrong, breaksOrder}
+use Rattle.table.specs.Shape.{inShape, itemsOf, itemsOk, itemOk}
 use Rattle.mates.specs.declared.Open.{Open}
 use Rattle.mates.specs.Mates.{scan, boxesAt, belongs, closeFrom, closeOf, itemAt, past}
-use Rattle.machine.specs.Machine as rules
-use Rattle.machine.specs.Machine.{Cell, unwritten, held, Vars, cellAt, cellType, valueOf, holds, write, da, ba, eb, Run, Status, live, finishedRun, stoppedRun, faultRun, Control, noControl, Z, Y, Offer, nothing, oneFloat, onePoint, done, Out, Step, Chosen, into, beyond, bad, orBad, readFaults, tried, choose, Meets, ready, short, amiss}
-use Rattle.machine.specs.Machine.{goto, keep, unskip, end-with, next, pend, anyOpen, unwind, outside, inside, leaveOuts, isNone, isEmpty, faults, reads, written, kindNow, kept, reading, stopsBy, code0010, runAct, runPack, chosen, enter, leave, runPoint, runSweep, runHead, runBranch, runEndloop, runClose, runBreak, run, asksNothing, meets, served, orFault, finish, atEnd, tries, atItem, told, tagFrom, cleared, aborted, moved, again, cellOk, cellsOk, opensOk, runOk, step}
+use Rattle.state.specs.State as runs
+use Rattle.machine.specs.Words.{Cell, held, Control, noControl, Z, Y, Offer, nothing, oneFloat, onePoint, done}
+use Rattle.state.specs.State.{Vars, cellAt, cellType, valueOf, holds, write, da, ba, eb, Run, Status, live, finishedRun, stoppedRun, faultRun, Out, Step, Meets, ready, short, amiss, goto, keep, unskip, end-with, written, kindNow, reading, code0010, asksNothing, meets, cleared, cellOk, cellsOk}
+use Rattle.machine.specs.Machine.{Chosen, into, beyond, bad, orBad, readFaults, tried, choose, next, anyOpen, unwind, outside, inside, leaveOuts, isNone, isEmpty, faults, reads, kept, runAct, runPack, chosen, enter, leave, runPoint, runSweep, runHead, runBranch, runClose, runBreak, run, served, orFault, finish, tries, atItem, told, tagFrom, aborted, moved, again, opensOk, runOk, step}
 use Rattle.machine.specs.Code.{boxFault}
 use Rattle.machine.specs.Moves.{ninth}
 use Rattle.machine.specs.Settle.{boxOk}
@@ -243,7 +244,7 @@ module _ (xs : List Item) where
 
   kept-lasts : (m : Run) (n t : ℕ) (c : Calculated) → Shaped xs m → m .at < length xs → Fine c → Shaped xs (kept m n t c .next)
   kept-lasts m n t (got v) s h f = next-lasts (keep m (write (m .vars) n v t)) (keep-lasts m (write (m .vars) n v t) s (cells-set (m .vars) n (held v t) (s .cells) f)) h
-  kept-lasts m n t byZero s h f = end-lasts m (stoppedRun rules.code0028) s
+  kept-lasts m n t byZero s h f = end-lasts m (stoppedRun runs.code0028) s
   kept-lasts m n t notFinite s h f = end-lasts m (stoppedRun code0010) s
 
   module _ (names size : ℕ) where
@@ -394,7 +395,7 @@ module _ (xs : List Item) where
   fault-lasts (suc n) m t s f = end-lasts m (faultRun (suc n)) s
 
   finish-lasts : (m₀ m : Run) (o : Offer) (os : List Out) → Shaped xs m₀ → Shaped xs m → Shaped xs (finish m₀ m o os .next)
-  finish-lasts m₀ m o os a b = served-lasts m₀ m (asksNothing o) (record { answer = rules.finished; outs = os; next = end-with m finishedRun }) a b (end-lasts m finishedRun b)
+  finish-lasts m₀ m o os a b = served-lasts m₀ m (asksNothing o) (record { answer = runs.finished; outs = os; next = end-with m finishedRun }) a b (end-lasts m finishedRun b)
 
   items-at : (names size : ℕ) (ys : List Item) (i : ℕ) → itemsOk names size ys ≡ true → i < length ys → itemOk names size (getD ys i tag) ≡ true
   items-at names size [] i e h = absurd (omega arith)
@@ -453,14 +454,14 @@ module _ (size : ℕ) (s : Script) (m : Run) (c : Control) (o : Offer) (t : inSh
       (shaped-ok (itemsOf s) _ (again-lasts (itemsOf s) (m .status) m _ a (moved-lasts (itemsOf s) (s .names) size m (told (itemsOf s) m c) o k a (told-lasts (itemsOf s) m c a))))
 
   -- an ended run repeats its answer to any control and offer, handing out nothing
-  pub ended-finished : m .status ≡ finishedRun → step size s m c o ≡ record { answer = rules.finished; outs = []; next = m }
+  pub ended-finished : m .status ≡ finishedRun → step size s m c o ≡ record { answer = runs.finished; outs = []; next = m }
   unfolding step
   ended-finished q = rw (t, e, q)
 
-  pub ended-stopped : (n : ℕ) → m .status ≡ stoppedRun n → step size s m c o ≡ record { answer = rules.stopped n; outs = []; next = m }
+  pub ended-stopped : (n : ℕ) → m .status ≡ stoppedRun n → step size s m c o ≡ record { answer = runs.stopped n; outs = []; next = m }
   unfolding step
   ended-stopped n q = rw (t, e, q)
 
-  pub ended-fault : (n : ℕ) → m .status ≡ faultRun n → step size s m c o ≡ record { answer = rules.fault n; outs = []; next = m }
+  pub ended-fault : (n : ℕ) → m .status ≡ faultRun n → step size s m c o ≡ record { answer = runs.fault n; outs = []; next = m }
   unfolding step
   ended-fault n q = rw (t, e, q)

@@ -1,14 +1,9 @@
-pub mod Names
-pub mod Boxes
-pub mod Tests
 pub mod Placed
-pub mod Things
 pub mod Chain
 pub mod Loops
 pub mod Points
 pub mod Steps
 pub mod Shapes
-pub mod Rests
 pub mod Keeping
 pub mod Answers
 pub mod Tight

@@ -1,28 +1,18 @@
 -- The tests of a state's shape.
-use Prim.Native.Nat.{ℕ, zero, suc, _+_, _-_, _≤_, _<_}
-use mathlib.Core.Path.{_≡_, refl, sym, ap, _∙_}
-use mathlib.Core.Bool.{Bool, true, false, not, _&&_}
-use mathlib.Core.List.{List, [], _∷_}
+use Prim.Native.Nat.{ℕ, _-_, _≤_}
+use mathlib.Core.Path.{_≡_, refl}
+use mathlib.Core.Bool.{Bool, true, false, _&&_}
+use mathlib.Core.List.{List}
 use native.Mathlib.Omega.{arith}
-use native.Mathlib.Numerals.{add-one}
-use lib.Dec.{ltb, leb}
-use lib.ListN.{length, getD, drop, drop-of-length-le}
-use lib.Seq.{drop-cons}
+use lib.Dec.{leb}
+use lib.ListN.{length}
 use borrow.Author.Tests.{leb-true}
 use Rattle.table.specs.declared.Item.{Item}
 use Rattle.table.specs.declared.Script.{Script}
 use Rattle.table.specs.Shape.{inShape, itemsOf, itemsOk}
-use Rattle.machine.specs.Machine.{Run, unwritten, cellOk, cellsOk, opensOk, runOk}
-use Rattle.machine.specs.Meaning.{Var, cellsOf}
+use Rattle.state.specs.State.{Run, cellsOk}
+use Rattle.machine.specs.Machine.{opensOk, runOk}
 use Rattle.machine.specs.Moves.{Stands}
-use Rattle.machine.proofs.Names.{noVar, vars-get, vars-length}
-
-pub cells-more : (vs : List Var) (i : ℕ) → i < length vs
-    → cellsOk (drop i (cellsOf vs)) ≡ (cellOk ((getD vs i noVar) .cell) && cellsOk (drop (i + 1) (cellsOf vs)))
-cells-more vs i h = rw (drop-cons (cellsOf vs) i unwritten (omega (arith, vars-length vs)), vars-get vs i, add-one)
-
-pub cells-end : (vs : List Var) (i : ℕ) → length vs ≤ i → cellsOk (drop i (cellsOf vs)) ≡ true
-cells-end vs i h = rw (drop-of-length-le (cellsOf vs) {i = i} (omega (arith, vars-length vs)))
 
 pub and-l : (a b : Bool) → (a && b) ≡ true → a ≡ true
 and-l true b e = refl

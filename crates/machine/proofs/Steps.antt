@@ -1,14 +1,14 @@
 -- One step: the tag, the faults, the control.
-use Prim.Native.Nat.{ℕ, zero, suc, _+_, _-_, _≤_, _<_}
-use mathlib.Core.Path.{_≡_, refl, sym, ap, _∙_}
-use mathlib.Core.Bool.{Bool, true, false, not, _&&_, _||_, cond}
+use Prim.Native.Nat.{ℕ, suc, _+_, _-_, _≤_, _<_}
+use mathlib.Core.Path.{_≡_, refl, sym, _∙_}
+use mathlib.Core.Bool.{Bool, true, false, not, _&&_}
 use mathlib.Core.List.{List, [], _∷_}
-use mathlib.Core.Option.{Option, none, some}
+use mathlib.Core.Option.{none, some}
 use native.Mathlib.Nat.{zero-add}
 use native.Mathlib.Omega.{arith}
 use native.Mathlib.Numerals.{add-one}
-use lib.Dec.{leb, ltb}
-use lib.ListN.{length, getD, drop, drop-of-length-le}
+use lib.Dec.{leb}
+use lib.ListN.{length, drop, drop-of-length-le}
 use lib.Seq.{drop-cons}
 use Rattle.table.specs.declared.Item.{Item}
 use Rattle.table.specs.declared.Item.the-variants.{Act as act, Pack as pack, Open as opens, Branch as branch, Close as closes, Break as breakloop, Tag as tag}
@@ -16,11 +16,13 @@ use Rattle.table.specs.declared.Head.the-variants.{If as if', Loop as loop, Swe
 use Rattle.table.specs.Item.{isOpen, isTag, isLoop, isSweep, opensA}
 use Rattle.table.specs.Uses.{first, gives, missing, wrong, breaksOrder}
 use Rattle.mates.specs.Mates.{itemAt}
-use Rattle.machine.specs.Machine.{Run, Offer, Control, noControl, Z, Y, Step, anyOpen, inside, tagFrom, faults, faultsBy, orFault, served, meets, run, tries, badOf, holds, atItem, atEnd, told, written, kindNow, reads}
-use Rattle.machine.specs.Meaning.{Fault, faultNumber, unwrittenFault, kindFault, boxFault, depthFault, packageFault}
+use Rattle.state.specs.State.{Run, Step, faultsBy, meets, holds, written, kindNow, toldIn}
+use Rattle.machine.specs.Words.{Offer, Control, noControl, Z, Y, Fault, unwrittenFault, kindFault, boxFault, depthFault, packageFault}
+use Rattle.machine.specs.Machine.{anyOpen, inside, tagFrom, faults, orFault, served, run, tries, badOf, atItem, atEnd, told, reads}
+use Rattle.state.specs.Meaning.{faultNumber}
 use Rattle.machine.specs.Code as code
 use Rattle.machine.specs.Code.{chosenAt}
-use Rattle.machine.specs.Moves.{Stands, ninth, toldIn}
+use Rattle.machine.specs.Moves.{Stands, ninth}
 
 -- ---- the first tag
 

@@ -1,243 +1,28 @@
 -- No second answer fits a public function's contract.
-use Prim.Native.Nat.{ℕ, zero, suc, _+_, _-_, _≤_, _<_}
+use Prim.Native.Nat.{ℕ}
 use mathlib.Core.Path.{_≡_, refl, sym, ap, _∙_}
-use mathlib.Core.Bool.{Bool, true, false, cond}
-use mathlib.Core.List.{List, [], _∷_, _++_}
-use native.Mathlib.Omega.{arith}
-use lib.Dec.{eqb, ltb}
-use lib.ListN.{length, getD, take, drop, replicate, take-append-drop}
-use lib.Seq.{ext-getD, getD-drop, length-take-le}
-use borrow.Author.Tests.{ltb-true, ltb-false}
+use mathlib.Core.Bool.{Bool, true, false}
 use Rattle.table.specs.declared.Script.{Script}
-use Rattle.machine.specs.Machine as rules
-use Rattle.machine.specs.Machine.{Run, Out, nought, enters, leaves, packStart, packEnd, packPart, says, waits, setsE, setsMode, switchesCell, Step, Control, Offer}
-use Rattle.machine.specs.Meaning.{Var, Stop, byZero, notFinite, Fault, unwrittenFault, kindFault, boxFault, depthFault, packageFault, Refusal, shapeRefusal, readingRefusal, Status, live, finishedRun, stoppedRun, faultRun, State, Answer, running, waiting, finished, stopped, fault, refused}
-use Rattle.machine.specs.Meaning.{Order, orderWait, orderSetE, orderSetMode, orderCellOn, orderCellOff, What, noThing, entered, left, started, part, ends, text, order, Thing, Stepped, codeOf, faultNumber, refusalNumber, tops, cellsOf, statusOf, runOf, answerOf, orderOf, outOf, outsOf, meaning, Neat}
-use Rattle.machine.specs.Exact.{Exact, isRefusal}
-use Rattle.machine.proofs.Boxes.{tops-length}
-use Rattle.machine.proofs.Things.{outs-length}
-
--- ---- each meaning can be read back
-
-stopBack : ℕ → Stop
-stopBack n = cond (eqb n 40) byZero notFinite
-
-faultBack : ℕ → Fault
-faultBack n = cond (eqb n 60) unwrittenFault (cond (eqb n 61) kindFault (cond (eqb n 62) boxFault (cond (eqb n 63) depthFault packageFault)))
-
-refusalBack : ℕ → Refusal
-refusalBack n = cond (eqb n 30) shapeRefusal readingRefusal
-
-stop-back : (s : Stop) → stopBack (codeOf s) ≡ s
-unfolding stopBack
-stop-back byZero = refl
-stop-back notFinite = refl
-
-fault-back : (f : Fault) → faultBack (faultNumber f) ≡ f
-unfolding faultBack
-fault-back unwrittenFault = refl
-fault-back kindFault = refl
-fault-back boxFault = refl
-fault-back depthFault = refl
-fault-back packageFault = refl
-
-refusal-back : (r : Refusal) → refusalBack (refusalNumber r) ≡ r
-unfolding refusalBack
-refusal-back shapeRefusal = refl
-refusal-back readingRefusal = refl
-
-statusBack : rules.Status → Status
-statusBack rules.live = live
-statusBack rules.finishedRun = finishedRun
-statusBack (rules.stoppedRun n) = stoppedRun (stopBack n)
-statusBack (rules.faultRun n) = faultRun (faultBack n)
-
-status-back : (s : Status) → statusBack (statusOf s) ≡ s
-unfolding statusBack
-status-back live = refl
-status-back finishedRun = refl
-status-back (stoppedRun s) = rw (stop-back s)
-status-back (faultRun f) = rw (fault-back f)
-
-answerBack : rules.Answer → Answer
-answerBack rules.running = running
-answerBack rules.waiting = waiting
-answerBack rules.finished = finished
-answerBack (rules.stopped n) = stopped (stopBack n)
-answerBack (rules.fault n) = fault (faultBack n)
-answerBack (rules.refuse n) = refused (refusalBack n)
-
-answer-back : (a : Answer) → answerBack (answerOf a) ≡ a
-unfolding answerBack
-answer-back running = refl
-answer-back waiting = refl
-answer-back finished = refl
-answer-back (stopped s) = rw (stop-back s)
-answer-back (fault f) = rw (fault-back f)
-answer-back (refused r) = rw (refusal-back r)
-
-whatBack : Out → What
-whatBack nought = noThing
-whatBack (enters s) = entered s
-whatBack (leaves s) = left s
-whatBack packStart = started
-whatBack packEnd = ends
-whatBack (packPart v t) = part v t
-whatBack (says t) = text t
-whatBack (waits v) = order (orderWait v)
-whatBack (setsE v) = order (orderSetE v)
-whatBack (setsMode n) = order (orderSetMode n)
-whatBack (switchesCell true) = order orderCellOn
-whatBack (switchesCell false) = order orderCellOff
-
-what-back : (w : What) → whatBack (outOf w) ≡ w
-unfolding whatBack
-what-back noThing = refl
-what-back (entered s) = refl
-what-back (left s) = refl
-what-back started = refl
-what-back (part v t) = refl
-what-back ends = refl
-what-back (text t) = refl
-what-back (order (orderWait v)) = refl
-what-back (order (orderSetE v)) = refl
-what-back (order (orderSetMode n)) = refl
-what-back (order orderCellOn) = refl
-what-back (order orderCellOff) = refl
-
--- ---- rows
-
-thingsBack : List Out → List Thing
-thingsBack [] = []
-thingsBack (o ∷ os) = record { what = whatBack o } ∷ thingsBack os
-
-things-back : (ts : List Thing) → thingsBack (outsOf ts) ≡ ts
-unfolding thingsBack
-things-back [] = refl
-things-back (t ∷ ts) = rw (what-back (t .what), things-back ts)
-
-varsBack : rules.Vars → List Var
-varsBack [] = []
-varsBack (c ∷ cs) = record { cell = c } ∷ varsBack cs
-
-vars-back : (vs : List Var) → varsBack (cellsOf vs) ≡ vs
-unfolding varsBack
-vars-back [] = refl
-vars-back (v ∷ vs) = rw (vars-back vs)
-
-tops-getD : (l k : List ℕ) (n i : ℕ) → tops l n ≡ tops k n → i < n → getD l i 0 ≡ getD k i 0
-tops-getD l k zero i e h = absurd (omega arith)
-tops-getD l k (suc n) i e h = go (ltb i n) refl (tops-getD l k n i)
-  where
-    hd : getD l n 0 ≡ getD k n 0
-    hd = cc
-
-    tl : tops l n ≡ tops k n
-    tl = cc
-
-    go : (b : Bool) → ltb i n ≡ b → (tops l n ≡ tops k n → i < n → getD l i 0 ≡ getD k i 0) → getD l i 0 ≡ getD k i 0
-    go true q rec = rec tl (ltb-true i n q)
-    go false q rec = let z : i ≡ n = omega (arith, ltb-false i n q) in rw z hd
-
-same-boxes : (l k : List ℕ) (n : ℕ) → length l ≡ 8 → length k ≡ 8 → tops l n ≡ tops k n → drop n l ≡ drop n k → l ≡ k
-same-boxes l k n p q e f = ext-getD 0 l k (p ∙ sym q) (λ i h. go i (ltb i n) refl)
-  where
-    go : (i : ℕ) (b : Bool) → ltb i n ≡ b → getD l i 0 ≡ getD k i 0
-    go i true z = tops-getD l k n i e (ltb-true i n z)
-    go i false z =
-        let y : n + (i - n) ≡ i = omega (arith, ltb-false i n z) in
-        let a : getD (drop n l) (i - n) 0 ≡ getD l i 0 = getD-drop n l (i - n) 0 ∙ ap (λ (j : ℕ). getD l j 0) y in
-        let b : getD (drop n k) (i - n) 0 ≡ getD k i 0 = getD-drop n k (i - n) 0 ∙ ap (λ (j : ℕ). getD k j 0) y in
-        sym a ∙ ap (λ (r : List ℕ). getD r (i - n) 0) f ∙ b
-
-same-row : {A : Type 0} (l k : List A) (n : ℕ) → take n l ≡ take n k → drop n l ≡ drop n k → l ≡ k
-same-row l k n e f = sym (take-append-drop n l) ∙ rw (e, f) (take-append-drop n k)
-
--- ---- the state
-
-stateFrom : ℕ → List ℕ → ℕ → List Var → Bool → Bool → Bool → Status → State
-stateFrom a b d v p s k t = record { at = a; boxes = b; depth = d; vars = v; pending = p; skip = s; packed = k; status = t }
-
-state-from : (m : State) → stateFrom (m .at) (m .boxes) (m .depth) (m .vars) (m .pending) (m .skip) (m .packed) (m .status) ≡ m
-unfolding stateFrom
-state-from m = refl
-
-same-state : (a b : State) → length (a .boxes) ≡ 8 → length (b .boxes) ≡ 8 → runOf a ≡ runOf b → Neat a → Neat b → a ≡ b
-same-state a b p q e f g =
-    let i : a .at ≡ b .at = ap (λ (m : Run). m .at) e in
-    let o : tops (a .boxes) (a .depth) ≡ tops (b .boxes) (b .depth) = ap (λ (m : Run). m .boxes) e in
-    let d : a .depth ≡ b .depth = sym (tops-length (a .boxes) (a .depth)) ∙ ap length o ∙ tops-length (b .boxes) (b .depth) in
-    let o′ : tops (a .boxes) (a .depth) ≡ tops (b .boxes) (a .depth) = o ∙ ap (λ (n : ℕ). tops (b .boxes) n) (sym d) in
-    let g′ : drop (a .depth) (b .boxes) ≡ replicate (8 - a .depth) 0 = rw d g in
-    let l : a .boxes ≡ b .boxes = same-boxes (a .boxes) (b .boxes) (a .depth) p q o′ (f ∙ sym g′) in
-    let v : a .vars ≡ b .vars = sym (vars-back (a .vars)) ∙ ap varsBack (ap (λ (m : Run). m .vars) e) ∙ vars-back (b .vars) in
-    let x : a .pending ≡ b .pending = ap (λ (m : Run). m .pending) e in
-    let y : a .skip ≡ b .skip = ap (λ (m : Run). m .skip) e in
-    let z : a .packed ≡ b .packed = ap (λ (m : Run). m .packed) e in
-    let t : a .status ≡ b .status = sym (status-back (a .status)) ∙ ap statusBack (ap (λ (m : Run). m .status) e) ∙ status-back (b .status) in
-    let w : stateFrom (a .at) (a .boxes) (a .depth) (a .vars) (a .pending) (a .skip) (a .packed) (a .status) ≡ stateFrom (b .at) (b .boxes) (b .depth) (b .vars) (b .pending) (b .skip) (b .packed) (b .status) = cc in
-    sym (state-from a) ∙ w ∙ state-from b
-
--- ---- the answer of a step
-
-steppedFrom : State → Answer → List Thing → ℕ → Stepped
-steppedFrom m a t n = record { state = m; answer = a; things = t; count = n }
-
-stepped-from : (r : Stepped) → steppedFrom (r .state) (r .answer) (r .things) (r .count) ≡ r
-unfolding steppedFrom
-stepped-from r = refl
-
--- an array of the code has its length
-pub record Sized (r : Stepped) : Type 0 where
-  pub boxes : length (r .state .boxes) ≡ 8
-  pub things : length (r .things) ≡ 8
-
-pub only-fresh : (r r′ : State) → length (r .boxes) ≡ 8 → length (r′ .boxes) ≡ 8 → (runOf r ≡ rules.fresh) × Neat r → (runOf r′ ≡ rules.fresh) × Neat r′ → r ≡ r′
-only-fresh r r′ p q e f = same-state r r′ p q (e .0 ∙ sym (f .0)) (e .1) (f .1)
+use Rattle.state.specs.State.{Step, isRefusal}
+use Rattle.state.specs.Meaning.{answerOf, meaning}
+use Rattle.state.proofs.Tight.{Sized, same-state, same-answer, same-stepped}
+use Rattle.machine.specs.Words.{Control, Offer, State, Stepped}
+use Rattle.machine.specs.Exact.{Exact}
 
 module _ (size : ℕ) (script : Script) (state : State) (c : Control) (o : Offer) (r r′ : Stepped) (z : Sized r) (z′ : Sized r′)
     (e : Exact size script state c o r) (f : Exact size script state c o r′) where
   same : meaning r ≡ meaning r′
   same = e .says ∙ sym (f .says)
 
-  same-answer : r .answer ≡ r′ .answer
-  same-answer = sym (answer-back (r .answer)) ∙ ap answerBack (ap (λ (s : Step). s .answer) same) ∙ answer-back (r′ .answer)
-
   same-next : r .state ≡ r′ .state
   same-next = go (isRefusal (answerOf (r .answer))) refl
     where
+      a : r .answer ≡ r′ .answer
+      a = same-answer r r′ z z′ same (e .blank) (f .blank) (e .few) (f .few)
+
       go : (b : Bool) → isRefusal (answerOf (r .answer)) ≡ b → r .state ≡ r′ .state
-      go true q = e .unchanged q ∙ sym (f .unchanged (rw same-answer at q))
-      go false q = same-state (r .state) (r′ .state) (z .boxes) (z′ .boxes) (ap (λ (s : Step). s .next) same) (e .neat q) (f .neat (rw same-answer at q))
-
-  same-count : r .count ≡ r′ .count
-  same-count =
-      sym (length-take-le (r .count) (outsOf (r .things)) (omega (arith, outs-length (r .things), z .things, e .few)))
-      ∙ ap length (ap (λ (s : Step). s .outs) same)
-      ∙ length-take-le (r′ .count) (outsOf (r′ .things)) (omega (arith, outs-length (r′ .things), z′ .things, f .few))
-
-  same-things : r .things ≡ r′ .things
-  same-things =
-      let t : take (r .count) (outsOf (r .things)) ≡ take (r .count) (outsOf (r′ .things)) = ap (λ (s : Step). s .outs) same ∙ ap (λ (n : ℕ). take n (outsOf (r′ .things))) (sym same-count) in
-      let d : drop (r .count) (outsOf (r .things)) ≡ drop (r .count) (outsOf (r′ .things)) = e .blank ∙ rw same-count (sym (f .blank)) in
-      sym (things-back (r .things)) ∙ ap thingsBack (same-row (outsOf (r .things)) (outsOf (r′ .things)) (r .count) t d) ∙ things-back (r′ .things)
+      go true q = e .unchanged q ∙ sym (f .unchanged (rw a at q))
+      go false q = same-state (r .state) (r′ .state) (z .boxes) (z′ .boxes) (ap (λ (s : Step). s .next) same) (e .neat q) (f .neat (rw a at q))
 
   pub only-step : r ≡ r′
-  only-step =
-      let a : r .answer ≡ r′ .answer = same-answer in
-      let s : r .state ≡ r′ .state = same-next in
-      let t : r .things ≡ r′ .things = same-things in
-      let n : r .count ≡ r′ .count = same-count in
-      let w : steppedFrom (r .state) (r .answer) (r .things) (r .count) ≡ steppedFrom (r′ .state) (r′ .answer) (r′ .things) (r′ .count) = cc in
-      sym (stepped-from r) ∙ w ∙ stepped-from r′
-
--- ---- the numbers
-
-pub only-number-of-fault : (x : Fault) (r r′ : ℕ) → r ≡ faultNumber x → r′ ≡ faultNumber x → r ≡ r′
-only-number-of-fault x r r′ p q = p ∙ sym q
-
-pub only-code-of-stop : (x : Stop) (r r′ : ℕ) → r ≡ codeOf x → r′ ≡ codeOf x → r ≡ r′
-only-code-of-stop x r r′ p q = p ∙ sym q
-
-pub only-number-of-refusal : (x : Refusal) (r r′ : ℕ) → r ≡ refusalNumber x → r′ ≡ refusalNumber x → r ≡ r′
-only-number-of-refusal x r r′ p q = p ∙ sym q
+  only-step = same-stepped r r′ z z′ same (e .blank) (f .blank) (e .few) (f .few) same-next

@@ -1,5 +1,5 @@
+pub mod Words
 pub mod Machine
-pub mod Meaning
 pub mod Code
 pub mod Moves
 pub mod Exact

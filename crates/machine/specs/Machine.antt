@@ -1,30 +1,25 @@
 -- The machine (01): one step takes a control and an offer. The order within a step: 30; the answer of a run that has ended; the control; a
 -- pending abort; the faults 60 to 64, lowest first; the offer: waiting or 31; then 0028 and 0010.
-use Prim.Native.Nat.{ℕ, zero, suc, _+_, _*_}
+-- The names, the run, what a step answers and hands out and what an offer meets stand in specs/State.antt of the crate `state`.
+use Prim.Native.Nat.{ℕ, zero, suc, _+_}
 use mathlib.Core.Bool.{Bool, true, false, not, _&&_, _||_, cond}
 use mathlib.Core.List.{List, [], _∷_, _++_}
 use mathlib.Core.Option.{Option, none, some}
 use lib.Dec.{eqb, ltb, leb}
-use lib.ListN.{length, getD, set, replicate, drop}
-use lib.IntN.{pos}
-use lib.Ieee.{Float, nan}
-use Rattle.value.specs.declared.Value.{Value}
-use Rattle.value.specs.declared.Value.the-variants.{Whole as whole, Real as real}
+use lib.ListN.{length, set, drop}
+use lib.Ieee.{Float}
+use Rattle.value.specs.declared.Value.the-variants.{Real as real}
 use Rattle.value.specs.declared.Calculated.{Calculated}
 use Rattle.value.specs.declared.Calculated.the-variants.{Value as got, ByZero as byZero, NotFinite as notFinite}
-use Rattle.value.specs.Arithmetic.{finite, calculated, checked, compares}
-use Rattle.table.specs.declared.Operand.{Operand}
-use Rattle.table.specs.declared.Operand.the-variants.{Name as name, Literal as literal}
-use Rattle.table.specs.declared.Condition.{Condition}
+use Rattle.value.specs.Arithmetic.{finite, calculated, checked}
+use Rattle.table.specs.declared.Operand.the-variants.{Name as name}
 use Rattle.table.specs.declared.Sweep.{Sweep}
-use Rattle.table.specs.declared.Text.{Text}
 use Rattle.table.specs.declared.Act.{Act}
 use Rattle.table.specs.declared.Act.the-variants.{Var as var, Store as store, Copy as copy, Calc as calc, Meas as meas, TimerGet as timerGet, SendString as sendString, Wait as wait, SetE as setE, SetMode as setMode, TimerStart as timerStart, CellOn as cellOn, CellOff as cellOff, Abort as abort}
 use Rattle.table.specs.declared.Pack.{Pack}
 use Rattle.table.specs.declared.Pack.the-variants.{Start as pckStart, Add as pckAdd, End as pckEnd}
 use Rattle.table.specs.declared.Head.{Head}
 use Rattle.table.specs.declared.Head.the-variants.{If as if', Loop as loop, Sweep as sweep}
-use Rattle.table.specs.declared.Branch.{Branch}
 use Rattle.table.specs.declared.Branch.the-variants.{ElseIf as elseif, Else as else}
 use Rattle.table.specs.declared.Close.{Close}
 use Rattle.table.specs.declared.Close.the-variants.{EndIf as endif, EndLoop as endloop}
@@ -32,141 +27,15 @@ use Rattle.table.specs.declared.Item.{Item}
 use Rattle.table.specs.declared.Item.the-variants.{Act as act, Pack as pack, Open as opens, Branch as branch, Close as closes, Break as breakloop, Tag as tag}
 use Rattle.table.specs.declared.Sort.{Sort}
 use Rattle.table.specs.declared.Sort.the-variants.{Loop as loopBox, Sweep as sweepBox}
-use Rattle.table.specs.declared.Known.{Known}
-use Rattle.table.specs.declared.Known.the-variants.{Unknown as unknown, Of as known}
 use Rattle.table.specs.declared.Want.{Want}
-use Rattle.table.specs.declared.Give.{Give}
-use Rattle.table.specs.declared.Give.the-variants.{Like as like, Float as float}
 use Rattle.table.specs.declared.Script.{Script}
 use Rattle.table.specs.Item.{isOpen, isBranch, isClose, isBreak, isTag, isLoop, isSweep, opensA}
-use Rattle.table.specs.Uses.{uses, conditionUses, gives, kindOf, wrong, missing, breaksOrder, first}
+use Rattle.table.specs.Uses.{uses, conditionUses, gives, wrong, missing, breaksOrder, first}
 use Rattle.table.specs.Shape.{itemsOf, inShape}
 use Rattle.mates.specs.declared.Open.{Open}
 use Rattle.mates.specs.Mates.{scan, boxesAt, belongs, closeOf, itemAt, past}
-pub use Rattle.machine.specs.declared.Cell.{Cell}
-pub use Rattle.machine.specs.declared.Cell.the-variants.{Unwritten as unwritten, Holds as held}
-pub use Rattle.machine.specs.declared.Control.{Control}
-pub use Rattle.machine.specs.declared.Control.the-variants.{None as noControl, Z, Y}
-pub use Rattle.machine.specs.declared.Offer.{Offer}
-pub use Rattle.machine.specs.declared.Offer.the-variants.{Nothing as nothing, Float as oneFloat, Point as onePoint, Done as done}
-
--- ---- the names: unwritten, or a value and its type
-
-abbrev pub Vars : Type 0
-Vars = List Cell
-
-abbrev pub cellAt : Vars → ℕ → Cell
-cellAt vs n = getD vs n unwritten
-
-abbrev pub isWritten : Cell → Bool
-isWritten unwritten = false
-isWritten (held v t) = true
-
-abbrev pub cellKind : Cell → Known
-cellKind unwritten = unknown
-cellKind (held v t) = known (kindOf v)
-
-abbrev pub cellValue : Cell → Value
-cellValue unwritten = whole (pos 0)
-cellValue (held v t) = v
-
-abbrev pub cellType : Cell → ℕ
-cellType unwritten = 0
-cellType (held v t) = t
-
-abbrev pub written : Vars → ℕ → Bool
-written vs n = isWritten (cellAt vs n)
-
-abbrev pub kindNow : Vars → ℕ → Known
-kindNow vs n = cellKind (cellAt vs n)
-
-abbrev pub valueOf : Vars → Operand → Value
-valueOf vs (name n) = cellValue (cellAt vs n)
-valueOf vs (literal l) = l
-
-abbrev pub holds : Vars → Condition → Bool
-holds vs c = compares (c .by) (valueOf vs (c .left)) (valueOf vs (c .right))
-
-abbrev pub write : Vars → ℕ → Value → ℕ → Vars
-write vs n v t = set vs n (held v t)
-
--- the types da, ba and eb: the first letter times 256, and the second
-abbrev pub da : ℕ
-da = 100 * 256 + 97
-
-abbrev pub ba : ℕ
-ba = 98 * 256 + 97
-
-abbrev pub eb : ℕ
-eb = 101 * 256 + 98
-
--- ---- the run
-
--- running; finished; stopped by a code; or by a fault's number
-pub data Status : Type 0 where
-  live finishedRun : Status
-  stoppedRun faultRun : ℕ → Status
-
--- the codes 0028 and 0010, in hex
-abbrev pub code0028 : ℕ
-code0028 = 2 * 16 + 8
-
-abbrev pub code0010 : ℕ
-code0010 = 1 * 16 + 0
-
--- boxes: the places of the open boxes, innermost first
-pub record Run : Type 0 where
-  pub at : ℕ
-  pub boxes : List ℕ
-  pub vars : Vars
-  pub pending : Bool
-  pub skip : Bool
-  pub packed : Bool
-  pub status : Status
-
--- what a step hands out: M0000 or L, * or +, a package's start, end or part (value and type), a text, an order; nought stands past the last
-pub data Out : Type 0 where
-  nought : Out
-  enters leaves : Sort → Out
-  packStart packEnd : Out
-  packPart : Value → ℕ → Out
-  says : Text → Out
-  waits setsE : Value → Out
-  setsMode : ℕ → Out
-  switchesCell : Bool → Out
-
--- stopped by a code, a fault by its number, refused by a number
-pub data Answer : Type 0 where
-  running waiting finished : Answer
-  stopped fault refuse : ℕ → Answer
-
-pub record Step : Type 0 where
-  pub answer : Answer
-  pub outs : List Out
-  pub next : Run
-
-abbrev pub fresh : Run
-fresh = record { at = 0; boxes = []; vars = replicate 32 unwritten; pending = false; skip = false; packed = false; status = live }
-
--- the run at item i with the boxes ps open
-abbrev pub goto : Run → ℕ → List ℕ → Run
-goto m i ps = record { at = i; boxes = ps; vars = m .vars; pending = m .pending; skip = m .skip; packed = m .packed; status = m .status }
-
-abbrev pub keep : Run → Vars → Run
-keep m vs = record { at = m .at; boxes = m .boxes; vars = vs; pending = m .pending; skip = m .skip; packed = m .packed; status = m .status }
-
--- the skip is dropped where a measuring loop is left
-abbrev pub unskip : Bool → Run → Run
-unskip b m = record { at = m .at; boxes = m .boxes; vars = m .vars; pending = m .pending; skip = m .skip && not b; packed = m .packed; status = m .status }
-
-abbrev pub end-with : Run → Status → Run
-end-with m s = record { at = m .at; boxes = m .boxes; vars = m .vars; pending = m .pending; skip = m .skip; packed = m .packed; status = s }
-
-abbrev pub packing : Run → Bool → Run
-packing m b = record { at = m .at; boxes = m .boxes; vars = m .vars; pending = m .pending; skip = m .skip; packed = b; status = m .status }
-
-abbrev pub pend : Run → Run
-pend m = record { at = m .at; boxes = m .boxes; vars = m .vars; pending = true; skip = m .skip; packed = m .packed; status = m .status }
+use Rattle.state.specs.State.{Vars, cellAt, cellType, cellValue, written, kindNow, valueOf, holds, write, da, ba, eb, cellsOk, Status, live, finishedRun, stoppedRun, faultRun, code0028, code0010, Run, goto, keep, unskip, end-with, packing, pend, cleared, Out, enters, leaves, packStart, packEnd, packPart, says, waits, setsE, setsMode, switchesCell, waiting, finished, stopped, fault, refuse, Step, said, faultsBy, stopsBy, Meets, ready, short, amiss, asksNothing, meets, reading}
+use Rattle.machine.specs.Words.{Control, noControl, Z, Y, Offer, nothing, oneFloat, onePoint, done}
 
 -- ---- the open boxes
 
@@ -226,15 +95,6 @@ faults xs m x =
 
 -- ---- one item
 
-abbrev pub said : List Out → Run → Step
-said os m = record { answer = running; outs = os; next = m }
-
-abbrev pub faultsBy : ℕ → Run → Step
-faultsBy n m = record { answer = fault n; outs = []; next = end-with m (faultRun n) }
-
-abbrev pub stopsBy : ℕ → Run → Step
-stopsBy s m = record { answer = stopped s; outs = []; next = end-with m (stoppedRun s) }
-
 abbrev pub next : Run → Run
 next m = goto m (suc (m .at)) (m .boxes)
 
@@ -243,12 +103,6 @@ abbrev pub kept : Run → ℕ → ℕ → Calculated → Step
 kept m n t (got v) = said [] (next (keep m (write (m .vars) n v t)))
 kept m n t byZero = stopsBy code0028 m
 kept m n t notFinite = stopsBy code0010 m
-
-abbrev pub reading : Offer → Float
-reading nothing = nan
-reading (oneFloat x) = x
-reading (onePoint p) = nan
-reading done = nan
 
 abbrev pub runAct : Run → Act → Offer → Step
 runAct m (var v) o = said [] (next m)
@@ -352,35 +206,6 @@ run xs m tag o = said [] (next m)
 
 -- ---- one step
 
--- what an item wants, and whether the offer meets it
-pub data Meets : Type 0 where
-  ready short amiss : Meets
-
-abbrev pub asksNothing : Offer → Meets
-asksNothing nothing = ready
-asksNothing (oneFloat x) = amiss
-asksNothing (onePoint p) = amiss
-asksNothing done = amiss
-
-abbrev pub asksFloat : Offer → Meets
-asksFloat nothing = short
-asksFloat (oneFloat x) = ready
-asksFloat (onePoint p) = amiss
-asksFloat done = amiss
-
-abbrev pub asksPoint : Offer → Meets
-asksPoint nothing = short
-asksPoint (oneFloat x) = amiss
-asksPoint (onePoint p) = ready
-asksPoint done = ready
-
--- a float that an item writes comes with the offer: one for meas and timer_get, two in a point
-abbrev pub meets : List Give → Offer → Meets
-meets [] o = asksNothing o
-meets (like n x ∷ gs) o = asksNothing o
-meets (float n ∷ []) o = asksFloat o
-meets (float n ∷ g ∷ gs) o = asksPoint o
-
 -- the state before the step is kept by a refusal; what the control made of it by a wait
 abbrev pub served : Run → Run → Meets → Step → Step
 served m₀ m ready s = s
@@ -430,10 +255,6 @@ abbrev pub tagFrom : ℕ → List Item → Option ℕ
 tagFrom i [] = none
 tagFrom i (x ∷ xs) = let r = tagFrom (suc i) xs in cond (isTag x) (some i) r
 
--- all boxes closed, at item i
-abbrev pub cleared : Run → ℕ → Run
-cleared m i = record { at = i; boxes = []; vars = m .vars; pending = false; skip = false; packed = m .packed; status = m .status }
-
 -- the tag itself does nothing, and with no box and no package open it has no fault
 abbrev pub aborted : List Item → Run → Run → Offer → Option ℕ → Step
 aborted xs m₀ m o none = finish m₀ (cleared m (m .at)) o (leaveOuts xs (m .boxes))
@@ -449,14 +270,6 @@ again (stoppedRun c) m s = record { answer = stopped c; outs = []; next = m }
 again (faultRun n) m s = record { answer = fault n; outs = []; next = m }
 
 -- ---- the state's shape
-
-abbrev pub cellOk : Cell → Bool
-cellOk unwritten = true
-cellOk (held v t) = finite v
-
-abbrev pub cellsOk : Vars → Bool
-cellsOk [] = true
-cellsOk (v ∷ vs) = cellOk v && cellsOk vs
 
 abbrev pub opensOk : List Item → List ℕ → Bool
 opensOk xs [] = true

@@ -8,9 +8,10 @@ use lib.ListN.{length}
 use Rattle.table.specs.declared.Item.{Item}
 use Rattle.table.specs.Item.{isOpen}
 use Rattle.mates.specs.Mates.{closeOf, itemAt}
-use Rattle.machine.specs.Machine.{Run, Step, isNone}
-use Rattle.machine.specs.Meaning.{State, Stepped, runOf, answerOf, meaning, Neat, Blank}
-use Rattle.machine.specs.Exact.{isRefusal}
+use Rattle.state.specs.State.{Run, Step, isRefusal}
+use Rattle.machine.specs.Machine.{isNone}
+use Rattle.machine.specs.Words.{State, Stepped}
+use Rattle.state.specs.Meaning.{answerOf, meaning, Neat, Blank}
 
 -- a refusal hands out nothing and changes nothing
 abbrev pub Faithful : Run → Step → Type 0

@@ -1,22 +1,31 @@
 // The machine: one step at a time, over a script's table and a state by value.
-use mates::Mark;
 use mates::Marks;
-use mates::Role;
+use state::Answer;
+use state::Cell;
+use state::Control;
+use state::Fault;
+use state::Meets;
+use state::Offer;
+use state::Order;
+use state::Point;
+use state::Refusal;
+use state::State;
+use state::Status;
+use state::Stepped;
+use state::Stop;
+use state::Thing;
+use state::What;
 use table::Act;
 use table::Branch;
 use table::Close;
 use table::Condition;
-use table::Give;
-use table::Gives;
 use table::Head;
 use table::Item;
-use table::Known;
 use table::Operand;
 use table::Pack;
 use table::Script;
 use table::Sort;
 use table::Sweep;
-use table::Text;
 use table::Want;
 use table::Wants;
 use value::Calculated;
@@ -24,349 +33,39 @@ use value::Operation;
 use value::Value;
 ghost use mathlib.Core.Path.{_≡_};
 ghost use mathlib.Core.Bool.{true, false, _&&_, _||_, not, cond};
-ghost use mathlib.Core.List.{[], _∷_, _++_, map};
+ghost use mathlib.Core.List.{[], _∷_, _++_};
 ghost use Prim.Native.Nat.{_+_, _-_, _≤_, _<_};
-ghost use lib.Seq.{sets};
 ghost use lib.Dec.{leb};
-ghost use lib.ListN.{getD, set, replicate, length, drop};
-ghost use Rattle.table.specs.Item.{isOpen, isClose, isTag, isLoop, isSweep, opensA, sortOf};
-ghost use Rattle.value.specs.Arithmetic.{calculated, checked};
-ghost use Rattle.value.specs.declared.Value.the-variants.{Real as real};
-ghost use Rattle.table.specs.declared.Sort.the-variants.{Loop as loopBox, Sweep as sweepBox};
+ghost use lib.ListN.{set, length, drop};
+ghost use Rattle.table.specs.Item.{isOpen, isTag, isLoop, isSweep, opensA, sortOf};
+ghost use Rattle.value.specs.Arithmetic.{calculated};
+ghost use Rattle.table.specs.declared.Sort.the-variants.{Loop as loopBox};
 ghost use Rattle.table.specs.declared.Operand.the-variants.{Name as name};
 ghost use Rattle.table.specs.declared.Item.the-variants.{Open as opens, Branch as branch};
 ghost use Rattle.table.specs.declared.Head.the-variants.{If as if'};
 ghost use Rattle.table.specs.declared.Branch.the-variants.{ElseIf as elseif};
-ghost use Rattle.table.specs.Uses.{first, gives, allWants, allGives, missing, wrong, conditionUses};
+ghost use Rattle.table.specs.Uses.{first, gives, allWants, conditionUses};
 ghost use Rattle.table.specs.Shape.{itemsOf};
-ghost use Rattle.mates.specs.Mates.{belongs, boxesAt, closeOf, itemAt, past};
-ghost use Rattle.mates.specs.Marks.{noMark, Marked};
+ghost use Rattle.mates.specs.Mates.{boxesAt, itemAt};
+ghost use Rattle.mates.specs.Marks.{Marked, Seen};
 ghost use Rattle.machine.specs.Machine as rules;
-ghost use Rattle.machine.specs.Machine.{cellAt, isWritten, cellKind, cellValue, cellType, valueOf, holds};
-ghost use Rattle.machine.specs.Machine.{keep, goto, next, packing, pend, unskip, said, faultsBy, stopsBy};
-ghost use Rattle.machine.specs.Meaning.{runOf, Neat, faultNumber, codeOf, refusalNumber, statusOf, answerOf, tops};
-ghost use Rattle.machine.specs.Meaning.{outOf, noThing, meaning};
-ghost use Rattle.machine.specs.Machine.{anyOpen, unwind, leaveOuts, inside, strays, readFaults, tried, choose, kept, runAct, runPack};
-ghost use Rattle.machine.specs.Machine.{enter, leave, write, da, ba, runPoint, runSweep, runHead, chosen, runBranch, runEndloop, runClose, runBreak};
-ghost use Rattle.machine.specs.Machine.{asksNothing, served, orFault, badOf, finish, atEnd, atItem, told, tagFrom, cleared, aborted, moved, again, cellOk, cellsOk, opensOk, runOk};
-ghost use Rattle.machine.specs.Exact.{Exact, isRefusal};
+ghost use Rattle.state.specs.State as runs;
+ghost use Rattle.state.specs.State.{cellAt, cellType, valueOf, holds, keep, goto, pend, said, asksNothing, cleared, outer};
+ghost use Rattle.machine.specs.Machine.{next, anyOpen, unwind, leaveOuts, inside, strays, readFaults, tried, choose, kept, runAct, runPack, enter, leave};
+ghost use Rattle.machine.specs.Machine.{runPoint, runSweep, runHead, chosen, runBranch, runEndloop, runClose, runBreak, served, orFault, badOf, finish, atEnd};
+ghost use Rattle.machine.specs.Machine.{atItem, told, tagFrom, aborted, moved, again, opensOk, runOk};
+ghost use Rattle.state.specs.Meaning.{runOf, answerOf, tops, outOf, meaning};
+ghost use Rattle.machine.specs.Exact.{Exact};
 ghost use Rattle.machine.specs.Settle.{Faithful, Settled, boxOk};
-ghost use Rattle.machine.specs.Moves.{outer, Stands, ninth, skipped, toldIn, placeOf};
-ghost use Rattle.machine.specs.Code.{Seen, opensRole, closesRole, always, handedOf, troubleOf, boxFault};
-ghost use Rattle.machine.specs.Code.{triedBy, triedAt, chosenOf, chosenAt, meetsOf};
-
-const NAMES: usize = 32;
-
-const ITEMS: usize = 128;
+ghost use Rattle.machine.specs.Moves.{Stands, ninth, placeOf};
+ghost use Rattle.machine.specs.Code.{handedOf, troubleOf, boxFault, triedBy, triedAt, chosenOf, chosenAt};
 
 const BOXES: usize = 8;
 
-const THINGS: usize = 8;
-
 // A type is its first letter times 256, and its second.
-const TYPE_DA: u16 = 25697;
-
-const TYPE_BA: u16 = 25185;
-
 const TYPE_EB: u16 = 25954;
 
-// One point is a potential and a current.
-pub struct Point {
-    pub potential: f64,
-    pub current: f64,
-}
-
-pub enum Offer {
-    Nothing,
-    Float(f64),
-    Point(Point),
-    Done,
-}
-
-pub enum Control {
-    None,
-    Z,
-    Y,
-}
-
-// What a name holds: a value and its type.
-pub enum Cell {
-    Unwritten,
-    Holds(Value, u16),
-}
-
-pub struct Var {
-    pub cell: Cell,
-}
-
-// The codes 0028 and 0010.
-pub enum Stop {
-    ByZero,
-    NotFinite,
-}
-
-// The faults 60 to 64.
-pub enum Fault {
-    Unwritten,
-    Kind,
-    Box,
-    Depth,
-    Package,
-}
-
-// The refusals 30 and 31.
-pub enum Refusal {
-    Shape,
-    Reading,
-}
-
-pub enum Status {
-    Live,
-    Finished,
-    Stopped(Stop),
-    Fault(Fault),
-}
-
-// Where the run stands; the places of the open boxes, outermost first, and how many are open; the names.
-pub struct State {
-    pub at: usize,
-    pub boxes: [usize; 8],
-    pub depth: usize,
-    pub vars: [Var; 32],
-    pub pending: bool,
-    pub skip: bool,
-    pub packed: bool,
-    pub status: Status,
-}
-
-pub enum Answer {
-    Running,
-    Waiting,
-    Finished,
-    Stopped(Stop),
-    Fault(Fault),
-    Refused(Refusal),
-}
-
-pub enum Order {
-    Wait(Value),
-    SetE(Value),
-    SetMode(u8),
-    CellOn,
-    CellOff,
-}
-
-// What is handed out. Enter is the mark M0000 of a measuring loop and L of a loop, Leave is * and +.
-pub enum What {
-    Nothing,
-    Enter(Sort),
-    Leave(Sort),
-    Start,
-    Part(Value, u16),
-    End,
-    Text(Text),
-    Order(Order),
-}
-
-pub struct Thing {
-    pub what: What,
-}
-
-// The state after a step, its answer, and the things handed out, in order.
-pub struct Stepped {
-    pub state: State,
-    pub answer: Answer,
-    pub things: [Thing; 8],
-    pub count: usize,
-}
-
-// The number of a fault.
-pub fn number_of_fault(fault: Fault) -> u8
-    ensures { λ r. ⌜ r ≡ faultNumber fault ⌝ }
-{
-    match fault {
-        Fault::Unwritten => 60,
-        Fault::Kind => 61,
-        Fault::Box => 62,
-        Fault::Depth => 63,
-        Fault::Package => 64,
-    }
-}
-
-// The code by which a run stops.
-pub fn code_of_stop(stop: Stop) -> u16
-    ensures { λ r. ⌜ r ≡ codeOf stop ⌝ }
-{
-    match stop {
-        Stop::ByZero => 0x0028,
-        Stop::NotFinite => 0x0010,
-    }
-}
-
-// The number of a refusal.
-pub fn number_of_refusal(refusal: Refusal) -> u8
-    ensures { λ r. ⌜ r ≡ refusalNumber refusal ⌝ }
-{
-    match refusal {
-        Refusal::Shape => 30,
-        Refusal::Reading => 31,
-    }
-}
-
-// A run that has not begun.
-pub fn fresh() -> State
-    ensures { λ r. ⌜ (runOf r ≡ rules.fresh) × Neat r ⌝ }
-{
-    let vars = [Var {
-        cell: Cell::Unwritten,
-    }; 32];
-    State {
-        at: 0,
-        boxes: [0; 8],
-        depth: 0,
-        vars: vars,
-        pending: false,
-        skip: false,
-        packed: false,
-        status: Status::Live,
-    }
-}
-
-// ---- the names
-
-fn cell_at(m: State, n: usize) -> Cell
-    ensures { λ r. ⌜ r ≡ cellAt (runOf m .vars) n ⌝ }
-{
-    if n < NAMES {
-        let v = m.vars[n];
-        v.cell
-    } else {
-        Cell::Unwritten
-    }
-}
-
-fn cell_value(c: Cell) -> Value
-    ensures { λ r. ⌜ r ≡ cellValue c ⌝ }
-{
-    match c {
-        Cell::Unwritten => Value::Whole(0),
-        Cell::Holds(v, _) => v,
-    }
-}
-
-fn cell_type(c: Cell) -> u16
-    ensures { λ r. ⌜ r ≡ cellType c ⌝ }
-{
-    match c {
-        Cell::Unwritten => 0,
-        Cell::Holds(_, t) => t,
-    }
-}
-
-fn cell_kind(c: Cell) -> Known
-    ensures { λ r. ⌜ r ≡ cellKind c ⌝ }
-{
-    match c {
-        Cell::Unwritten => Known::Unknown,
-        Cell::Holds(v, _) => Known::Of(table::kind_of(v)),
-    }
-}
-
-fn is_written(c: Cell) -> bool
-    ensures { λ r. ⌜ r ≡ isWritten c ⌝ }
-{
-    match c {
-        Cell::Unwritten => false,
-        Cell::Holds(_, _) => true,
-    }
-}
-
-// Which names are written.
-fn written_names(m: State) -> [bool; 32]
-    ensures { λ r. ⌜ r ≡ map isWritten (runOf m .vars) ⌝ }
-{
-    let mut t = [false; 32];
-    let mut i = 0;
-    while i < NAMES {
-        let v = m.vars[i];
-        let c = v.cell;
-        t[i] = is_written(c);
-        i += 1;
-    }
-    t
-}
-
-// The kinds of what the names hold.
-fn kinds_now(m: State) -> [Known; 32]
-    ensures { λ r. ⌜ r ≡ map cellKind (runOf m .vars) ⌝ }
-{
-    let mut t = [Known::Unknown; 32];
-    let mut i = 0;
-    while i < NAMES {
-        let v = m.vars[i];
-        let c = v.cell;
-        t[i] = cell_kind(c);
-        i += 1;
-    }
-    t
-}
-
-fn operand_value(m: State, x: Operand) -> Value
-    ensures { λ r. ⌜ r ≡ valueOf (runOf m .vars) x ⌝ }
-{
-    match x {
-        Operand::Name(n) => cell_value(cell_at(m, n)),
-        Operand::Literal(l) => l,
-    }
-}
-
-fn condition_holds(m: State, c: Condition) -> bool
-    ensures { λ r. ⌜ r ≡ holds (runOf m .vars) c ⌝ }
-{
-    let left = c.left;
-    let by = c.by;
-    let right = c.right;
-    value::compare(by, operand_value(m, left), operand_value(m, right))
-}
-
-fn put_cell(m: State, n: usize, c: Cell) -> State
-    ensures { λ r. ⌜ runOf r ≡ keep (runOf m) (set (runOf m .vars) n c) ⌝ }
-{
-    if n < NAMES {
-        let mut t = m;
-        t.vars[n] = Var { cell: c };
-        t
-    } else {
-        m
-    }
-}
-
 // ---- the state anew
-
-fn with_status(m: State, status: Status) -> State
-    ensures { λ r. ⌜ runOf r ≡ rules.end-with (runOf m) (statusOf status) ⌝ }
-{
-    let boxes = m.boxes;
-    let vars = m.vars;
-    State {
-        at: m.at,
-        boxes: boxes,
-        depth: m.depth,
-        vars: vars,
-        pending: m.pending,
-        skip: m.skip,
-        packed: m.packed,
-        status: status,
-    }
-}
-
-fn go_to(m: State, i: usize) -> State
-    ensures { λ r. ⌜ runOf r ≡ goto (runOf m) i (runOf m .boxes) ⌝ }
-{
-    let mut t = m;
-    t.at = i;
-    t
-}
 
 fn go_on(m: State) -> State
     requires { ⌜ m .at ≤ 128 ⌝ }
@@ -375,41 +74,6 @@ fn go_on(m: State) -> State
     let mut t = m;
     let i = t.at;
     t.at = i + 1;
-    t
-}
-
-fn with_packed(m: State, b: bool) -> State
-    ensures { λ r. ⌜ runOf r ≡ packing (runOf m) b ⌝ }
-{
-    let mut t = m;
-    t.packed = b;
-    t
-}
-
-fn with_pending(m: State) -> State
-    ensures { λ r. ⌜ runOf r ≡ pend (runOf m) ⌝ }
-{
-    let mut t = m;
-    t.pending = true;
-    t
-}
-
-fn drop_skip(m: State, b: bool) -> State
-    ensures { λ r. ⌜ runOf r ≡ unskip b (runOf m) ⌝ }
-{
-    let mut t = m;
-    if b {
-        t.skip = false;
-    }
-    t
-}
-
-// The boxes inside the first d closed.
-fn cut_boxes(m: State, d: usize) -> State
-    ensures { λ r. ⌜ runOf r ≡ goto (runOf m) (m .at) (tops (m .boxes) d) ⌝ }
-{
-    let mut t = m;
-    t.depth = d;
     t
 }
 
@@ -424,201 +88,6 @@ fn push_box(m: State, p: usize) -> State
     t
 }
 
-// ---- answers
-
-fn no_things() -> [Thing; 8]
-    ensures { λ r. ⌜ r ≡ replicate 8 (record { what = noThing }) ⌝ }
-{
-    [Thing {
-        what: What::Nothing,
-    }; 8]
-}
-
-fn answered(m: State, a: Answer) -> Stepped
-    ensures { λ r. ⌜ meaning r ≡ record { answer = answerOf a; outs = []; next = runOf m } ⌝ }
-{
-    Stepped {
-        state: m,
-        answer: a,
-        things: no_things(),
-        count: 0,
-    }
-}
-
-fn hand_out(m: State, w: What) -> Stepped
-    ensures { λ r. ⌜ meaning r ≡ said (outOf w ∷ []) (runOf m) ⌝ }
-{
-    let mut ts = no_things();
-    ts[0] = Thing { what: w };
-    Stepped {
-        state: m,
-        answer: Answer::Running,
-        things: ts,
-        count: 1,
-    }
-}
-
-fn hand_out_two(m: State, v: What, w: What) -> Stepped
-    ensures { λ r. ⌜ meaning r ≡ said (outOf v ∷ outOf w ∷ []) (runOf m) ⌝ }
-{
-    let mut ts = no_things();
-    ts[0] = Thing { what: v };
-    ts[1] = Thing { what: w };
-    Stepped {
-        state: m,
-        answer: Answer::Running,
-        things: ts,
-        count: 2,
-    }
-}
-
-fn fault_by(m: State, f: Fault) -> Stepped
-    ensures { λ r. ⌜ meaning r ≡ faultsBy (faultNumber f) (runOf m) ⌝ }
-{
-    answered(with_status(m, Status::Fault(f)), Answer::Fault(f))
-}
-
-fn stop_by(m: State, s: Stop) -> Stepped
-    ensures { λ r. ⌜ meaning r ≡ stopsBy (codeOf s) (runOf m) ⌝ }
-{
-    answered(with_status(m, Status::Stopped(s)), Answer::Stopped(s))
-}
-
-// ---- the marks of the text
-
-fn mark_at(marks: Marks, p: usize) -> Mark
-    ensures { λ r. ⌜ r ≡ getD (marks .at) p noMark ⌝ }
-{
-    if p < ITEMS {
-        marks.at[p]
-    } else {
-        Mark {
-            opening: 0,
-            role: Role::Plain,
-        }
-    }
-}
-
-fn role_sweeps(r: Role) -> bool
-    ensures { λ b. ⌜ b ≡ opensRole isSweep r ⌝ }
-{
-    match r {
-        Role::Plain => false,
-        Role::If => false,
-        Role::Loop => false,
-        Role::Sweep => true,
-        Role::Branch => false,
-        Role::Close => false,
-    }
-}
-
-fn role_loops(r: Role) -> bool
-    ensures { λ b. ⌜ b ≡ opensRole isLoop r ⌝ }
-{
-    match r {
-        Role::Plain => false,
-        Role::If => false,
-        Role::Loop => true,
-        Role::Sweep => true,
-        Role::Branch => false,
-        Role::Close => false,
-    }
-}
-
-fn role_opens(r: Role) -> bool
-    ensures { λ b. ⌜ b ≡ opensRole always r ⌝ }
-{
-    match r {
-        Role::Plain => false,
-        Role::If => true,
-        Role::Loop => true,
-        Role::Sweep => true,
-        Role::Branch => false,
-        Role::Close => false,
-    }
-}
-
-fn role_closes(r: Role) -> bool
-    ensures { λ b. ⌜ b ≡ closesRole r ⌝ }
-{
-    match r {
-        Role::Plain => false,
-        Role::If => false,
-        Role::Loop => false,
-        Role::Sweep => false,
-        Role::Branch => false,
-        Role::Close => true,
-    }
-}
-
-fn wide(x: u8) -> usize
-    ensures { λ r. ⌜ r ≡ x ⌝ }
-{
-    x as usize
-}
-
-fn sweep_at(marks: Marks, p: usize) -> bool
-    ensures { λ r. ⌜ Seen (marks .at) (λ xs. r ≡ opensA isSweep (itemAt xs p)) ⌝ }
-{
-    let k = mark_at(marks, p);
-    let r = k.role;
-    role_sweeps(r)
-}
-
-fn loop_at(marks: Marks, p: usize) -> bool
-    ensures { λ r. ⌜ Seen (marks .at) (λ xs. r ≡ opensA isLoop (itemAt xs p)) ⌝ }
-{
-    let k = mark_at(marks, p);
-    let r = k.role;
-    role_loops(r)
-}
-
-fn open_at(marks: Marks, p: usize) -> bool
-    ensures { λ r. ⌜ Seen (marks .at) (λ xs. r ≡ isOpen (itemAt xs p)) ⌝ }
-{
-    let k = mark_at(marks, p);
-    let r = k.role;
-    role_opens(r)
-}
-
-// The mark at j belongs to the box that opens at p.
-fn belongs_to(marks: Marks, j: usize, p: usize) -> bool
-    ensures { λ r. ⌜ Seen (marks .at) (λ xs. r ≡ belongs p (itemAt xs j) (boxesAt xs j)) ⌝ }
-{
-    let k = mark_at(marks, j);
-    let o = wide(k.opening);
-    if o == 0 {
-        return false;
-    }
-    o - 1 == p
-}
-
-fn closes_for(marks: Marks, j: usize, p: usize) -> bool
-    ensures { λ r. ⌜ Seen (marks .at) (λ xs. r ≡ (isClose (itemAt xs j) && belongs p (itemAt xs j) (boxesAt xs j))) ⌝ }
-{
-    let k = mark_at(marks, j);
-    let r = k.role;
-    if role_closes(r) {
-        belongs_to(marks, j, p)
-    } else {
-        false
-    }
-}
-
-// Past the closing mark of the box that opens at p, or 0.
-fn close_of(marks: Marks, p: usize) -> usize
-    ensures { λ r. ⌜ Seen (marks .at) (λ xs. r ≡ past (closeOf xs p)) ⌝ }
-{
-    let mut j = p;
-    while j < ITEMS {
-        if closes_for(marks, j, p) {
-            return j + 1;
-        }
-        j += 1;
-    }
-    0
-}
-
 // ---- the open boxes
 
 // Whether a measuring loop is open.
@@ -629,7 +98,7 @@ fn any_sweep(marks: Marks, m: State) -> bool
     let mut k = m.depth;
     while 0 < k {
         let p = m.boxes[k - 1];
-        if sweep_at(marks, p) {
+        if mates::sweep_at(marks, p) {
             return true;
         }
         k -= 1;
@@ -645,7 +114,7 @@ fn loop_depth(marks: Marks, m: State) -> usize
     let mut k = m.depth;
     while 0 < k {
         let p = m.boxes[k - 1];
-        if loop_at(marks, p) {
+        if mates::loop_at(marks, p) {
             return k;
         }
         k -= 1;
@@ -675,10 +144,10 @@ fn leave_one(marks: Marks, h: Handed, p: usize) -> Handed
     requires { ⌜ h .count < 8 ⌝ }
     ensures { λ r. ⌜ (r .count ≤ h .count + 1) × Seen (marks .at) (λ xs. handedOf r ≡ handedOf h ++ leaveOuts xs (p ∷ [])) ⌝ }
 {
-    if sweep_at(marks, p) {
+    if mates::sweep_at(marks, p) {
         return add_thing(h, What::Leave(Sort::Sweep));
     }
-    if loop_at(marks, p) {
+    if mates::loop_at(marks, p) {
         return add_thing(h, What::Leave(Sort::Loop));
     }
     h
@@ -689,10 +158,7 @@ fn leave_all(marks: Marks, m: State) -> Handed
     requires { ⌜ m .depth ≤ 8 ⌝ }
     ensures { λ r. ⌜ (r .count ≤ 8) × Seen (marks .at) (λ xs. handedOf r ≡ leaveOuts xs (runOf m .boxes)) ⌝ }
 {
-    let mut h = Handed {
-        things: no_things(),
-        count: 0,
-    };
+    let mut h = none_handed();
     let mut k = m.depth;
     while 0 < k {
         let p = m.boxes[k - 1];
@@ -741,18 +207,6 @@ fn reads_at(x: Item) -> Wants
     }
 }
 
-fn reads_unwritten(m: State, ws: Wants) -> bool
-    ensures { λ r. ⌜ r ≡ missing (rules.written (runOf m .vars)) (allWants ws) ⌝ }
-{
-    table::any_missing(written_names(m), ws)
-}
-
-fn reads_wrong(m: State, ws: Wants) -> bool
-    ensures { λ r. ⌜ r ≡ wrong (rules.kindNow (runOf m .vars)) (allWants ws) ⌝ }
-{
-    table::any_wrong(kinds_now(m), ws)
-}
-
 // The innermost open box is the one at p.
 fn top_is(m: State, p: usize) -> bool
     requires { ⌜ m .depth ≤ 8 ⌝ }
@@ -776,7 +230,7 @@ fn strays_here(marks: Marks, m: State) -> bool
         return true;
     }
     let p = m.boxes[d - 1];
-    !belongs_to(marks, at, p)
+    !mates::belongs_to(marks, at, p)
 }
 
 // 62: no closing mate, not the innermost box's mark, or no open loop.
@@ -788,7 +242,7 @@ fn box_fault(marks: Marks, m: State, x: Item) -> bool
     match x {
         Item::Act(_) => false,
         Item::Pack(_) => false,
-        Item::Open(_) => close_of(marks, at) == 0,
+        Item::Open(_) => mates::close_of(marks, at) == 0,
         Item::Branch(_) => strays_here(marks, m),
         Item::Close(_) => strays_here(marks, m),
         Item::Break => loop_depth(marks, m) == 0,
@@ -836,8 +290,8 @@ fn faults_of(marks: Marks, m: State, x: Item) -> Trouble
     let ws = reads_at(x);
     let packed = m.packed;
     first_fault(
-        reads_unwritten(m, ws),
-        reads_wrong(m, ws),
+        state::reads_unwritten(m, ws),
+        state::reads_wrong(m, ws),
         box_fault(marks, m, x),
         depth_fault(m, x),
         table::breaks_order(x, packed),
@@ -876,7 +330,7 @@ fn condition_faults(m: State, c: Condition) -> Trouble
     let left = c.left;
     let right = c.right;
     let ws = Wants::One(Want::Alike(left, right));
-    first_of_reads(reads_unwritten(m, ws), reads_wrong(m, ws))
+    first_of_reads(state::reads_unwritten(m, ws), state::reads_wrong(m, ws))
 }
 
 fn try_condition(m: State, c: Condition, j: usize) -> Tried
@@ -887,7 +341,7 @@ fn try_condition(m: State, c: Condition, j: usize) -> Tried
     match t {
         Trouble::Fault(f) => Tried::Go(Chosen::Bad(f)),
         Trouble::None => {
-            if condition_holds(m, c) {
+            if state::condition_holds(m, c) {
                 Tried::Go(Chosen::Into(j + 1))
             } else {
                 Tried::Next
@@ -926,7 +380,7 @@ fn try_at(script: Script, marks: Marks, m: State, p: usize, j: usize) -> Tried
     requires { ⌜ (j < script .count) × (script .count ≤ 128) × Marked (itemsOf script) (marks .at) ⌝ }
     ensures { λ r. ⌜ ((o : rules.Chosen) → triedBy r o ≡ triedAt (itemsOf script) (runOf m .vars) p j o) ⌝ }
 {
-    if belongs_to(marks, j, p) {
+    if mates::belongs_to(marks, j, p) {
         let s = table::slot_at(script, j);
         let x = s.item;
         try_mate(m, x, j)
@@ -958,7 +412,7 @@ fn chosen_if(script: Script, marks: Marks, m: State, c: Condition) -> Chosen
     ensures { λ r. ⌜ chosenOf r ≡ chosenAt (itemsOf script) (runOf m) (opens (if' c)) ⌝ }
 {
     let at = m.at;
-    if condition_holds(m, c) {
+    if state::condition_holds(m, c) {
         Chosen::Into(at + 1)
     } else {
         choose_mate(script, marks, m)
@@ -991,81 +445,27 @@ fn chosen_at(script: Script, marks: Marks, m: State, x: Item) -> Chosen
     }
 }
 
-// ---- what an item wants
-
-enum Meets {
-    Ready,
-    Short,
-    Amiss,
-}
-
-fn asks_nothing(o: Offer) -> Meets
-    ensures { λ r. ⌜ meetsOf r ≡ rules.asksNothing o ⌝ }
-{
-    match o {
-        Offer::Nothing => Meets::Ready,
-        Offer::Float(_) => Meets::Amiss,
-        Offer::Point(_) => Meets::Amiss,
-        Offer::Done => Meets::Amiss,
-    }
-}
-
-fn asks_float(o: Offer) -> Meets
-    ensures { λ r. ⌜ meetsOf r ≡ rules.asksFloat o ⌝ }
-{
-    match o {
-        Offer::Nothing => Meets::Short,
-        Offer::Float(_) => Meets::Ready,
-        Offer::Point(_) => Meets::Amiss,
-        Offer::Done => Meets::Amiss,
-    }
-}
-
-fn asks_point(o: Offer) -> Meets
-    ensures { λ r. ⌜ meetsOf r ≡ rules.asksPoint o ⌝ }
-{
-    match o {
-        Offer::Nothing => Meets::Short,
-        Offer::Float(_) => Meets::Amiss,
-        Offer::Point(_) => Meets::Ready,
-        Offer::Done => Meets::Ready,
-    }
-}
-
-fn offer_meets(gs: Gives, o: Offer) -> Meets
-    ensures { λ r. ⌜ meetsOf r ≡ rules.meets (allGives gs) o ⌝ }
-{
-    match gs {
-        Gives::Nothing => asks_nothing(o),
-        Gives::One(g) => match g {
-            Give::Like(_, _) => asks_nothing(o),
-            Give::Float(_) => asks_float(o),
-        },
-        Gives::TwoFloats(_, _) => asks_point(o),
-    }
-}
-
 // ---- one item
 
 fn go_quietly(m: State) -> Stepped
     requires { ⌜ m .at ≤ 128 ⌝ }
     ensures { λ r. ⌜ meaning r ≡ said [] (next (runOf m)) ⌝ }
 {
-    answered(go_on(m), Answer::Running)
+    state::answered(go_on(m), Answer::Running)
 }
 
 fn go_saying(m: State, w: What) -> Stepped
     requires { ⌜ m .at ≤ 128 ⌝ }
     ensures { λ r. ⌜ meaning r ≡ said (outOf w ∷ []) (next (runOf m)) ⌝ }
 {
-    hand_out(go_on(m), w)
+    state::hand_out(go_on(m), w)
 }
 
 fn go_writing(m: State, n: usize, c: Cell) -> Stepped
     requires { ⌜ m .at ≤ 128 ⌝ }
     ensures { λ r. ⌜ meaning r ≡ said [] (next (keep (runOf m) (set (runOf m .vars) n c))) ⌝ }
 {
-    go_quietly(put_cell(m, n, c))
+    go_quietly(state::put_cell(m, n, c))
 }
 
 // A result or a reading is kept, or stops the run.
@@ -1075,29 +475,8 @@ fn keep_result(m: State, n: usize, kind: u16, c: Calculated) -> Stepped
 {
     match c {
         Calculated::Value(v) => go_writing(m, n, Cell::Holds(v, kind)),
-        Calculated::ByZero => stop_by(m, Stop::ByZero),
-        Calculated::NotFinite => stop_by(m, Stop::NotFinite),
-    }
-}
-
-fn finite_float(x: f64) -> Calculated
-    ensures { λ r. ⌜ r ≡ checked x ⌝ }
-{
-    if value::is_finite(Value::Real(x)) {
-        Calculated::Value(Value::Real(x))
-    } else {
-        Calculated::NotFinite
-    }
-}
-
-fn reading_of(o: Offer) -> Calculated
-    ensures { λ r. ⌜ r ≡ checked (rules.reading o) ⌝ }
-{
-    match o {
-        Offer::Nothing => Calculated::NotFinite,
-        Offer::Float(x) => finite_float(x),
-        Offer::Point(_) => Calculated::NotFinite,
-        Offer::Done => Calculated::NotFinite,
+        Calculated::ByZero => state::stop_by(m, Stop::ByZero),
+        Calculated::NotFinite => state::stop_by(m, Stop::NotFinite),
     }
 }
 
@@ -1105,13 +484,13 @@ fn run_calc(m: State, by: Operation, n: usize, x: Operand) -> Stepped
     requires { ⌜ m .at ≤ 128 ⌝ }
     ensures { λ r. ⌜ meaning r ≡ kept (runOf m) n (cellType (cellAt (runOf m .vars) n)) (calculated by (valueOf (runOf m .vars) (name n)) (valueOf (runOf m .vars) x)) ⌝ }
 {
-    let c = cell_at(m, n);
-    let kind = cell_type(c);
+    let c = state::cell_at(m, n);
+    let kind = state::cell_type(c);
     keep_result(
         m,
         n,
         kind,
-        value::calculate(by, cell_value(c), operand_value(m, x)),
+        value::calculate(by, state::cell_value(c), state::operand_value(m, x)),
     )
 }
 
@@ -1122,13 +501,13 @@ fn run_act(m: State, a: Act, o: Offer) -> Stepped
     match a {
         Act::Var(_) => go_quietly(m),
         Act::Store(n, v, kind) => go_writing(m, n, Cell::Holds(v, kind)),
-        Act::Copy(from, to) => go_writing(m, to, cell_at(m, from)),
+        Act::Copy(from, to) => go_writing(m, to, state::cell_at(m, from)),
         Act::Calc(by, n, x) => run_calc(m, by, n, x),
-        Act::Meas(_, n, kind) => keep_result(m, n, kind, reading_of(o)),
-        Act::TimerGet(n) => keep_result(m, n, TYPE_EB, reading_of(o)),
+        Act::Meas(_, n, kind) => keep_result(m, n, kind, state::reading_of(o)),
+        Act::TimerGet(n) => keep_result(m, n, TYPE_EB, state::reading_of(o)),
         Act::SendString(t) => go_saying(m, What::Text(t)),
-        Act::Wait(x) => go_saying(m, What::Order(Order::Wait(operand_value(m, x)))),
-        Act::SetE(x) => go_saying(m, What::Order(Order::SetE(operand_value(m, x)))),
+        Act::Wait(x) => go_saying(m, What::Order(Order::Wait(state::operand_value(m, x)))),
+        Act::SetE(x) => go_saying(m, What::Order(Order::SetE(state::operand_value(m, x)))),
         Act::SetMode(n) => go_saying(m, What::Order(Order::SetMode(n))),
         Act::TimerStart => go_quietly(m),
         Act::CellOn => go_saying(m, What::Order(Order::CellOn)),
@@ -1141,7 +520,7 @@ fn abort_later(m: State) -> Stepped
     requires { ⌜ m .at ≤ 128 ⌝ }
     ensures { λ r. ⌜ meaning r ≡ said [] (next (pend (runOf m))) ⌝ }
 {
-    go_quietly(with_pending(m))
+    go_quietly(state::with_pending(m))
 }
 
 fn run_pack(m: State, p: Pack) -> Stepped
@@ -1149,34 +528,16 @@ fn run_pack(m: State, p: Pack) -> Stepped
     ensures { λ r. ⌜ meaning r ≡ runPack (runOf m) p ⌝ }
 {
     match p {
-        Pack::Start => go_saying(with_packed(m, true), What::Start),
+        Pack::Start => go_saying(state::with_packed(m, true), What::Start),
         Pack::Add(n) => {
-            let c = cell_at(m, n);
-            go_saying(m, What::Part(cell_value(c), cell_type(c)))
+            let c = state::cell_at(m, n);
+            go_saying(m, What::Part(state::cell_value(c), state::cell_type(c)))
         }
-        Pack::End => go_saying(with_packed(m, false), What::End),
+        Pack::End => go_saying(state::with_packed(m, false), What::End),
     }
 }
 
 // ---- opening marks
-
-// The innermost box closed.
-fn pop_box(m: State) -> State
-    ensures { λ r. ⌜ runOf r ≡ goto (runOf m) (m .at) (outer (runOf m .boxes)) ⌝ }
-{
-    let d = m.depth;
-    if d == 0 {
-        return m;
-    }
-    cut_boxes(m, d - 1)
-}
-
-// At item i; the skip is dropped where a measuring loop is left.
-fn leave_to(m: State, i: usize, sweep: bool) -> State
-    ensures { λ r. ⌜ runOf r ≡ unskip sweep (goto (runOf m) i (runOf m .boxes)) ⌝ }
-{
-    drop_skip(go_to(m, i), sweep)
-}
 
 fn handing(m: State, a: Answer, h: Handed) -> Stepped
     ensures { λ r. ⌜ meaning r ≡ record { answer = answerOf a; outs = handedOf h; next = runOf m } ⌝ }
@@ -1209,32 +570,30 @@ fn leave_loop(marks: Marks, m: State, s: Sort) -> Stepped
     ensures { λ r. ⌜ Seen (marks .at) (λ xs. meaning r ≡ leave xs s (runOf m)) ⌝ }
 {
     let at = m.at;
-    let to = close_of(marks, at);
+    let to = mates::close_of(marks, at);
     let sweep = table::is_sweep(s);
     if top_is(m, at) {
-        return hand_out(leave_to(pop_box(m), to, sweep), What::Leave(s));
+        return state::hand_out(
+            state::leave_to(state::pop_box(m), to, sweep),
+            What::Leave(s),
+        );
     }
-    hand_out_two(leave_to(m, to, sweep), What::Enter(s), What::Leave(s))
+    state::hand_out_two(
+        state::leave_to(m, to, sweep),
+        What::Enter(s),
+        What::Leave(s),
+    )
 }
 
 fn run_loop(marks: Marks, m: State, c: Condition) -> Stepped
     requires { ⌜ Stands (runOf m) × (ninth (runOf m) true ≡ false) ⌝ }
     ensures { λ r. ⌜ Seen (marks .at) (λ xs. meaning r ≡ cond (holds (runOf m .vars) c) (enter loopBox (runOf m)) (leave xs loopBox (runOf m))) ⌝ }
 {
-    if condition_holds(m, c) {
+    if state::condition_holds(m, c) {
         enter_loop(m, Sort::Loop)
     } else {
         leave_loop(marks, m, Sort::Loop)
     }
-}
-
-fn write_point(m: State, w: Sweep, p: Point) -> State
-    ensures { λ r. ⌜ runOf r ≡ keep (runOf m) (write (write (runOf m .vars) (w .potential) (real (p .potential)) da) (w .current) (real (p .current)) ba) ⌝ }
-{
-    let first = w.potential;
-    let second = w.current;
-    let t = put_cell(m, first, Cell::Holds(Value::Real(p.potential), TYPE_DA));
-    put_cell(t, second, Cell::Holds(Value::Real(p.current), TYPE_BA))
 }
 
 fn run_point(m: State, w: Sweep, p: Point) -> Stepped
@@ -1242,12 +601,12 @@ fn run_point(m: State, w: Sweep, p: Point) -> Stepped
     ensures { λ r. ⌜ meaning r ≡ runPoint (runOf m) w (p .potential) (p .current) ⌝ }
 {
     if !value::is_finite(Value::Real(p.potential)) {
-        return stop_by(m, Stop::NotFinite);
+        return state::stop_by(m, Stop::NotFinite);
     }
     if !value::is_finite(Value::Real(p.current)) {
-        return stop_by(m, Stop::NotFinite);
+        return state::stop_by(m, Stop::NotFinite);
     }
-    enter_loop(write_point(m, w, p), Sort::Sweep)
+    enter_loop(state::write_point(m, w, p), Sort::Sweep)
 }
 
 fn run_sweep(marks: Marks, m: State, w: Sweep, o: Offer) -> Stepped
@@ -1268,9 +627,9 @@ fn run_chosen(m: State, c: Chosen) -> Stepped
 {
     let at = m.at;
     match c {
-        Chosen::Into(i) => answered(go_to(push_box(m, at), i), Answer::Running),
-        Chosen::Beyond(i) => answered(go_to(m, i), Answer::Running),
-        Chosen::Bad(f) => fault_by(m, f),
+        Chosen::Into(i) => state::answered(state::go_to(push_box(m, at), i), Answer::Running),
+        Chosen::Beyond(i) => state::answered(state::go_to(m, i), Answer::Running),
+        Chosen::Bad(f) => state::fault_by(m, f),
     }
 }
 
@@ -1293,18 +652,18 @@ fn run_branch(marks: Marks, m: State) -> Stepped
 {
     let d = m.depth;
     if d == 0 {
-        return fault_by(m, Fault::Box);
+        return state::fault_by(m, Fault::Box);
     }
     let p = m.boxes[d - 1];
-    let to = close_of(marks, p);
-    answered(go_to(pop_box(m), to), Answer::Running)
+    let to = mates::close_of(marks, p);
+    state::answered(state::go_to(state::pop_box(m), to), Answer::Running)
 }
 
 // An endloop leaves its measuring loop where an abort is pending or a skip is set.
 fn leaves_sweep(marks: Marks, m: State, p: usize) -> bool
     ensures { λ r. ⌜ Seen (marks .at) (λ xs. r ≡ (opensA isSweep (itemAt xs p) && (m .pending || m .skip))) ⌝ }
 {
-    if sweep_at(marks, p) {
+    if mates::sweep_at(marks, p) {
         m.pending | m.skip
     } else {
         false
@@ -1317,9 +676,12 @@ fn run_endloop(marks: Marks, m: State, p: usize) -> Stepped
 {
     if leaves_sweep(marks, m, p) {
         let at = m.at;
-        return hand_out(leave_to(pop_box(m), at + 1, true), What::Leave(Sort::Sweep));
+        return state::hand_out(
+            state::leave_to(state::pop_box(m), at + 1, true),
+            What::Leave(Sort::Sweep),
+        );
     }
-    answered(go_to(m, p), Answer::Running)
+    state::answered(state::go_to(m, p), Answer::Running)
 }
 
 fn run_close(marks: Marks, m: State, e: Close) -> Stepped
@@ -1328,11 +690,11 @@ fn run_close(marks: Marks, m: State, e: Close) -> Stepped
 {
     let d = m.depth;
     if d == 0 {
-        return fault_by(m, Fault::Box);
+        return state::fault_by(m, Fault::Box);
     }
     let p = m.boxes[d - 1];
     match e {
-        Close::EndIf => go_quietly(pop_box(m)),
+        Close::EndIf => go_quietly(state::pop_box(m)),
         Close::EndLoop => run_endloop(marks, m, p),
     }
 }
@@ -1341,7 +703,7 @@ fn none_handed() -> Handed
     ensures { λ r. ⌜ (handedOf r ≡ []) × (r .count ≡ 0) ⌝ }
 {
     Handed {
-        things: no_things(),
+        things: state::no_things(),
         count: 0,
     }
 }
@@ -1352,13 +714,17 @@ fn run_break(marks: Marks, m: State) -> Stepped
 {
     let k = loop_depth(marks, m);
     if k == 0 {
-        return fault_by(m, Fault::Box);
+        return state::fault_by(m, Fault::Box);
     }
     let p = m.boxes[k - 1];
-    let to = close_of(marks, p);
-    let sweep = sweep_at(marks, p);
+    let to = mates::close_of(marks, p);
+    let sweep = mates::sweep_at(marks, p);
     let h = leave_one(marks, none_handed(), p);
-    handing(leave_to(cut_boxes(m, k - 1), to, sweep), Answer::Running, h)
+    handing(
+        state::leave_to(state::cut_boxes(m, k - 1), to, sweep),
+        Answer::Running,
+        h,
+    )
 }
 
 // The item x at which the run stands, with no fault, and with what it wants.
@@ -1416,47 +782,15 @@ fn first_tag(script: Script) -> Place
     Place::Nowhere
 }
 
-fn with_skip(m: State, b: bool) -> State
-    ensures { λ r. ⌜ runOf r ≡ skipped b (runOf m) ⌝ }
-{
-    let mut t = m;
-    let s = t.skip;
-    t.skip = s | b;
-    t
-}
-
-// The control, where sweeping says whether a measuring loop is open.
-fn take_control(m: State, c: Control, sweeping: bool) -> State
-    ensures { λ r. ⌜ runOf r ≡ toldIn sweeping (runOf m) c ⌝ }
-{
-    match c {
-        Control::None => m,
-        Control::Z => with_pending(m),
-        Control::Y => with_skip(m, sweeping),
-    }
-}
-
-// All boxes closed, at item i.
-fn clear_boxes(m: State, i: usize) -> State
-    ensures { λ r. ⌜ runOf r ≡ cleared (runOf m) i ⌝ }
-{
-    let mut t = m;
-    t.at = i;
-    t.depth = 0;
-    t.pending = false;
-    t.skip = false;
-    t
-}
-
 // The run finishes, wanting nothing; before is the state before the step.
 fn finish_run(before: State, m: State, o: Offer, h: Handed) -> Stepped
     ensures { λ r. ⌜ meaning r ≡ finish (runOf before) (runOf m) o (handedOf h) ⌝ }
 {
-    let q = asks_nothing(o);
+    let q = state::asks_nothing(o);
     match q {
-        Meets::Ready => handing(with_status(m, Status::Finished), Answer::Finished, h),
-        Meets::Short => answered(m, Answer::Waiting),
-        Meets::Amiss => answered(before, Answer::Refused(Refusal::Reading)),
+        Meets::Ready => handing(state::with_status(m, Status::Finished), Answer::Finished, h),
+        Meets::Short => state::answered(m, Answer::Waiting),
+        Meets::Amiss => state::answered(before, Answer::Refused(Refusal::Reading)),
     }
 }
 
@@ -1466,34 +800,34 @@ fn run_end(before: State, m: State, o: Offer) -> Stepped
     let d = m.depth;
     let packed = m.packed;
     if d != 0 {
-        return fault_by(m, Fault::Box);
+        return state::fault_by(m, Fault::Box);
     }
     if packed {
-        return fault_by(m, Fault::Package);
+        return state::fault_by(m, Fault::Package);
     }
     finish_run(before, m, o, none_handed())
 }
 
 fn serve_item(marks: Marks, before: State, m: State, x: Item, c: Chosen, o: Offer) -> Stepped
     requires { ⌜ Stands (runOf m) × ((isOpen x && ninth (runOf m) (opensA isLoop x)) ≡ false) ⌝ }
-    ensures { λ r. ⌜ Seen (marks .at) (λ xs. chosenOf c ≡ chosenAt xs (runOf m) x → meaning r ≡ served (runOf before) (runOf m) (rules.meets (gives x) o) (rules.run xs (runOf m) x o)) ⌝ }
+    ensures { λ r. ⌜ Seen (marks .at) (λ xs. chosenOf c ≡ chosenAt xs (runOf m) x → meaning r ≡ served (runOf before) (runOf m) (runs.meets (gives x) o) (rules.run xs (runOf m) x o)) ⌝ }
 {
-    let q = offer_meets(table::writes(x), o);
+    let q = state::offer_meets(table::writes(x), o);
     match q {
         Meets::Ready => run_item(marks, m, x, c, o),
-        Meets::Short => answered(m, Answer::Waiting),
-        Meets::Amiss => answered(before, Answer::Refused(Refusal::Reading)),
+        Meets::Short => state::answered(m, Answer::Waiting),
+        Meets::Amiss => state::answered(before, Answer::Refused(Refusal::Reading)),
     }
 }
 
 fn try_item(marks: Marks, before: State, m: State, x: Item, c: Chosen, o: Offer) -> Stepped
     requires { ⌜ Stands (runOf m) × ((isOpen x && ninth (runOf m) (opensA isLoop x)) ≡ false) ⌝ }
-    ensures { λ r. ⌜ Seen (marks .at) (λ xs. chosenOf c ≡ chosenAt xs (runOf m) x → meaning r ≡ orFault (badOf (chosenOf c)) (runOf m) (served (runOf before) (runOf m) (rules.meets (gives x) o) (rules.run xs (runOf m) x o))) ⌝ }
+    ensures { λ r. ⌜ Seen (marks .at) (λ xs. chosenOf c ≡ chosenAt xs (runOf m) x → meaning r ≡ orFault (badOf (chosenOf c)) (runOf m) (served (runOf before) (runOf m) (runs.meets (gives x) o) (rules.run xs (runOf m) x o))) ⌝ }
 {
     match c {
         Chosen::Into(_) => serve_item(marks, before, m, x, c, o),
         Chosen::Beyond(_) => serve_item(marks, before, m, x, c, o),
-        Chosen::Bad(f) => fault_by(m, f),
+        Chosen::Bad(f) => state::fault_by(m, f),
     }
 }
 
@@ -1507,7 +841,7 @@ fn step_item(script: Script, marks: Marks, before: State, m: State, o: Offer) ->
     let x = s.item;
     let t = faults_of(marks, m, x);
     match t {
-        Trouble::Fault(f) => fault_by(m, f),
+        Trouble::Fault(f) => state::fault_by(m, f),
         Trouble::None => try_item(marks, before, m, x, chosen_at(script, marks, m, x), o),
     }
 }
@@ -1518,21 +852,21 @@ fn finish_cleared(marks: Marks, before: State, m: State, o: Offer) -> Stepped
 {
     let at = m.at;
     let h = leave_all(marks, m);
-    finish_run(before, clear_boxes(m, at), o, h)
+    finish_run(before, state::clear_boxes(m, at), o, h)
 }
 
 fn go_to_tag(marks: Marks, before: State, m: State, o: Offer, i: usize) -> Stepped
     requires { ⌜ Stands (runOf m) × (i ≤ 128) ⌝ }
     ensures { λ r. ⌜ Seen (marks .at) (λ xs. meaning r ≡ served (runOf before) (cleared (runOf m) i) (asksNothing o) (said (leaveOuts xs (runOf m .boxes)) (next (cleared (runOf m) i)))) ⌝ }
 {
-    let q = asks_nothing(o);
+    let q = state::asks_nothing(o);
     match q {
         Meets::Ready => {
             let h = leave_all(marks, m);
-            handing(go_on(clear_boxes(m, i)), Answer::Running, h)
+            handing(go_on(state::clear_boxes(m, i)), Answer::Running, h)
         }
-        Meets::Short => answered(clear_boxes(m, i), Answer::Waiting),
-        Meets::Amiss => answered(before, Answer::Refused(Refusal::Reading)),
+        Meets::Short => state::answered(state::clear_boxes(m, i), Answer::Waiting),
+        Meets::Amiss => state::answered(before, Answer::Refused(Refusal::Reading)),
     }
 }
 
@@ -1599,7 +933,7 @@ fn step_live(script: Script, marks: Marks, m: State, c: Control, o: Offer) -> St
     ensures { λ r. ⌜ meaning r ≡ moved (itemsOf script) (runOf m) (told (itemsOf script) (runOf m) c) o ⌝ }
 {
     let sweeping = any_sweep(marks, m);
-    let t = take_control(m, c, sweeping);
+    let t = state::take_control(m, c, sweeping);
     step_moved(script, marks, m, t, o, sweeping)
 }
 
@@ -1611,37 +945,13 @@ fn step_shaped(script: Script, marks: Marks, m: State, c: Control, o: Offer) -> 
     let s = m.status;
     match s {
         Status::Live => step_live(script, marks, m, c, o),
-        Status::Finished => answered(m, Answer::Finished),
-        Status::Stopped(q) => answered(m, Answer::Stopped(q)),
-        Status::Fault(f) => answered(m, Answer::Fault(f)),
+        Status::Finished => state::answered(m, Answer::Finished),
+        Status::Stopped(q) => state::answered(m, Answer::Stopped(q)),
+        Status::Fault(f) => state::answered(m, Answer::Fault(f)),
     }
 }
 
 // ---- the state's shape
-
-fn cell_ok(c: Cell) -> bool
-    ensures { λ r. ⌜ r ≡ cellOk c ⌝ }
-{
-    match c {
-        Cell::Unwritten => true,
-        Cell::Holds(v, _) => value::is_finite(v),
-    }
-}
-
-fn cells_ok(m: State) -> bool
-    ensures { λ r. ⌜ r ≡ cellsOk (runOf m .vars) ⌝ }
-{
-    let mut i = 0;
-    while i < NAMES {
-        let v = m.vars[i];
-        let c = v.cell;
-        if !cell_ok(c) {
-            return false;
-        }
-        i += 1;
-    }
-    true
-}
 
 // A box at an opening item, one of n, with a closing mate.
 fn box_ok(marks: Marks, n: usize, p: usize) -> bool
@@ -1650,10 +960,10 @@ fn box_ok(marks: Marks, n: usize, p: usize) -> bool
     if n <= p {
         return false;
     }
-    if !open_at(marks, p) {
+    if !mates::open_at(marks, p) {
         return false;
     }
-    close_of(marks, p) != 0
+    mates::close_of(marks, p) != 0
 }
 
 fn opens_ok(marks: Marks, n: usize, m: State) -> bool
@@ -1686,75 +996,10 @@ fn state_ok(marks: Marks, n: usize, m: State) -> bool
     if !opens_ok(marks, n, m) {
         return false;
     }
-    cells_ok(m)
+    state::cells_ok(m)
 }
 
 // ---- what is left over
-
-fn zero_boxes(boxes: [usize; 8], d: usize) -> [usize; 8]
-    ensures { λ r. ⌜ r ≡ sets boxes d (replicate (8 - d) 0) ⌝ }
-{
-    let mut t = boxes;
-    let mut i = d;
-    while i < BOXES {
-        t[i] = 0;
-        i += 1;
-    }
-    t
-}
-
-fn blank_things(things: [Thing; 8], n: usize) -> [Thing; 8]
-    ensures { λ r. ⌜ r ≡ sets things n (replicate (8 - n) (record { what = noThing })) ⌝ }
-{
-    let mut t = things;
-    let mut i = n;
-    while i < THINGS {
-        t[i] = Thing {
-            what: What::Nothing,
-        };
-        i += 1;
-    }
-    t
-}
-
-fn neat_state(m: State) -> State
-    ensures { λ r. ⌜ (runOf r ≡ runOf m) × Neat r ⌝ }
-{
-    let b = m.boxes;
-    let d = m.depth;
-    let v = m.vars;
-    let s = m.status;
-    let z = zero_boxes(b, d);
-    State {
-        at: m.at,
-        boxes: z,
-        depth: d,
-        vars: v,
-        pending: m.pending,
-        skip: m.skip,
-        packed: m.packed,
-        status: s,
-    }
-}
-
-fn at_most_eight(n: usize) -> usize
-    ensures { λ r. ⌜ r ≡ cond (leb n 8) n 8 ⌝ }
-{
-    if n <= THINGS { n } else { THINGS }
-}
-
-fn is_refused(a: Answer) -> bool
-    ensures { λ r. ⌜ r ≡ isRefusal (answerOf a) ⌝ }
-{
-    match a {
-        Answer::Running => false,
-        Answer::Waiting => false,
-        Answer::Finished => false,
-        Answer::Stopped(_) => false,
-        Answer::Fault(_) => false,
-        Answer::Refused(_) => true,
-    }
-}
 
 // A refusal hands back the state before the step as it is; otherwise nothing is left past the open boxes. Nothing is left past the things.
 fn settle(before: State, r: Stepped) -> Stepped
@@ -1762,25 +1007,15 @@ fn settle(before: State, r: Stepped) -> Stepped
     ensures { λ x. ⌜ Settled before (meaning r) x ⌝ }
 {
     let a = r.answer;
-    if is_refused(a) {
+    if state::is_refused(a) {
         return Stepped {
             state: before,
             answer: a,
-            things: no_things(),
+            things: state::no_things(),
             count: 0,
         };
     }
-    let m = r.state;
-    let ts = r.things;
-    let n = at_most_eight(r.count);
-    let neat = neat_state(m);
-    let blank = blank_things(ts, n);
-    Stepped {
-        state: neat,
-        answer: a,
-        things: blank,
-        count: n,
-    }
+    state::tidy(r)
 }
 
 // One step: the script's bytes, its table, the state, a control and an offer.
@@ -1788,12 +1023,18 @@ pub fn step(text: &[u8], script: Script, state: State, control: Control, offer: 
     ensures { λ r. ⌜ Exact (length (now (text .entry))) script state control offer r ⌝ }
 {
     if !table::in_shape(text, script) {
-        return settle(state, answered(state, Answer::Refused(Refusal::Shape)));
+        return settle(
+            state,
+            state::answered(state, Answer::Refused(Refusal::Shape)),
+        );
     }
     let marks = mates::marks_of(script);
     let n = script.count;
     if !state_ok(marks, n, state) {
-        return settle(state, answered(state, Answer::Refused(Refusal::Shape)));
+        return settle(
+            state,
+            state::answered(state, Answer::Refused(Refusal::Shape)),
+        );
     }
     settle(state, step_shaped(script, marks, state, control, offer))
 }

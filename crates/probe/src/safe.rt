@@ -3,12 +3,12 @@ use crate::states::AnswerNumbers;
 use crate::states::answer_numbers;
 use crate::states::control_of;
 use crate::states::offer_of;
-use machine::Control;
-use machine::Offer;
 use safety::Answers;
 use safety::Judged;
 use safety::Steps;
 use safety::Told;
+use state::Control;
+use state::Offer;
 
 // One step's control and offer, as `probe_step` takes them.
 #[repr(C)]

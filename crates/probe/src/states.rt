@@ -2,20 +2,20 @@
 use crate::tables::OperandNumbers;
 use crate::tables::value_numbers;
 use crate::tables::value_of;
-use machine::Answer;
-use machine::Cell;
-use machine::Control;
-use machine::Fault;
-use machine::Offer;
-use machine::Order;
-use machine::Point;
-use machine::State;
-use machine::Status;
-use machine::Stepped;
-use machine::Stop;
-use machine::Thing;
-use machine::Var;
-use machine::What;
+use state::Answer;
+use state::Cell;
+use state::Control;
+use state::Fault;
+use state::Offer;
+use state::Order;
+use state::Point;
+use state::State;
+use state::Status;
+use state::Stepped;
+use state::Stop;
+use state::Thing;
+use state::Var;
+use state::What;
 use table::Sort;
 use value::Value;
 
@@ -125,7 +125,7 @@ fn answered(sort: u8, number: u16) -> AnswerNumbers {
 }
 
 fn fault_numbers(fault: Fault) -> AnswerNumbers {
-    answered(FAULT, machine::number_of_fault(fault) as u16)
+    answered(FAULT, state::number_of_fault(fault) as u16)
 }
 
 pub fn answer_numbers(answer: Answer) -> AnswerNumbers {
@@ -133,9 +133,9 @@ pub fn answer_numbers(answer: Answer) -> AnswerNumbers {
         Answer::Running => answered(RUNNING, 0),
         Answer::Waiting => answered(WAITING, 0),
         Answer::Finished => answered(FINISHED, 0),
-        Answer::Stopped(stop) => answered(STOPPED, machine::code_of_stop(stop)),
+        Answer::Stopped(stop) => answered(STOPPED, state::code_of_stop(stop)),
         Answer::Fault(fault) => fault_numbers(fault),
-        Answer::Refused(refusal) => answered(REFUSED, machine::number_of_refusal(refusal) as u16),
+        Answer::Refused(refusal) => answered(REFUSED, state::number_of_refusal(refusal) as u16),
     }
 }
 
@@ -143,7 +143,7 @@ fn status_numbers(status: Status) -> AnswerNumbers {
     match status {
         Status::Live => answered(RUNNING, 0),
         Status::Finished => answered(FINISHED, 0),
-        Status::Stopped(stop) => answered(STOPPED, machine::code_of_stop(stop)),
+        Status::Stopped(stop) => answered(STOPPED, state::code_of_stop(stop)),
         Status::Fault(fault) => fault_numbers(fault),
     }
 }

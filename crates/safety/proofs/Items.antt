@@ -37,11 +37,12 @@ use Rattle.table.specs.Shape.{givesOk}
 use Rattle.mates.specs.Mates.{itemAt}
 use Rattle.rules.specs.declared.OpenBox.{OpenBox as Box}
 use Rattle.rules.specs.Check.{put}
-use Rattle.machine.specs.declared.Cell.{Cell}
-use Rattle.machine.specs.declared.Cell.the-variants.{Holds as held}
-use Rattle.machine.specs.declared.Offer.{Offer}
-use Rattle.machine.specs.declared.Offer.the-variants.{Nothing as nothing, Float as oneFloat, Point as onePoint, Done as done}
-use Rattle.machine.specs.Machine.{Vars, cellAt, isWritten, cellKind, cellValue, cellType, valueOf, holds, da, ba, eb, code0028, code0010, Run, leaves, Answer, running, waiting, finished, stopped, fault, refuse, Step, goto, keep, unskip, unwind, outside, said, stopsBy, next, kept, reading, runAct, runPack, Chosen, chosen, enter, leave, runPoint, runHead, runBranch, runClose, runBreak, run, cellOk}
+use Rattle.state.specs.declared.Cell.{Cell}
+use Rattle.state.specs.declared.Cell.the-variants.{Holds as held}
+use Rattle.state.specs.declared.Offer.{Offer}
+use Rattle.state.specs.declared.Offer.the-variants.{Nothing as nothing, Float as oneFloat, Point as onePoint, Done as done}
+use Rattle.state.specs.State.{Vars, cellAt, isWritten, cellKind, cellValue, cellType, valueOf, holds, da, ba, eb, code0028, code0010, Run, leaves, Answer, running, waiting, finished, stopped, fault, refuse, Step, goto, keep, unskip, said, stopsBy, reading, cellOk}
+use Rattle.machine.specs.Machine.{unwind, outside, next, kept, runAct, runPack, Chosen, chosen, enter, leave, runPoint, runHead, runBranch, runClose, runBreak, run}
 use Rattle.safety.specs.Safety.{isCode}
 use Rattle.safety.proofs.Laws.{no, or-l, or-r, and-l, and-r, not-f, not-t, both-r, not-nothing}
 use Rattle.safety.proofs.Walk.{textKinds, Accepted, more, closes-fits, branch-fits, clean, item-ok, gives-ok, like-below, float-below}

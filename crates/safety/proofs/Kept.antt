@@ -5,9 +5,10 @@ use mathlib.Core.Logic.{inl}
 use mathlib.Core.Bool.{Bool, true, false}
 use mathlib.Core.List.{List, []}
 use Rattle.table.specs.declared.Item.{Item}
-use Rattle.machine.specs.declared.Control.{Control}
-use Rattle.machine.specs.declared.Offer.{Offer}
-use Rattle.machine.specs.Machine.{Status, live, finishedRun, stoppedRun, faultRun, Run, Answer, running, waiting, finished, stopped, fault, refuse, Step, fresh, Meets, ready, short, amiss, served, told, moved, again}
+use Rattle.state.specs.declared.Control.{Control}
+use Rattle.state.specs.declared.Offer.{Offer}
+use Rattle.state.specs.State.{Status, live, finishedRun, stoppedRun, faultRun, Run, Answer, running, waiting, finished, stopped, fault, refuse, Step, fresh, Meets, ready, short, amiss}
+use Rattle.machine.specs.Machine.{served, told, moved, again}
 use Rattle.safety.specs.Safety.{wrongSort, allowed, unbroken, Promise}
 use Rattle.safety.proofs.Laws.{no′, not-nothing}
 use Rattle.safety.proofs.Walk.{textKinds, Accepted, outset}

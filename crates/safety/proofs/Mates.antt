@@ -24,7 +24,8 @@ use Rattle.mates.specs.declared.Open.{Open}
 use Rattle.mates.specs.Mates.{belongs, closeFrom, closeOf, past}
 use Rattle.rules.specs.declared.OpenBox.{OpenBox as Box}
 use Rattle.rules.specs.Check.{everything, both, isEmpty, left}
-use Rattle.machine.specs.Machine.{Vars, holds, readFaults, Chosen, into, beyond, choose}
+use Rattle.state.specs.State.{Vars, holds}
+use Rattle.machine.specs.Machine.{readFaults, Chosen, into, beyond, choose}
 use Rattle.safety.proofs.Laws.{no, no′, or-r, Sub, both-l, both-r}
 use Rattle.safety.proofs.Walk.{textKinds, Accepted, state, Reach, more, closes-fits, clean, ends}
 use Rattle.safety.proofs.Boxes.{erase, Below}

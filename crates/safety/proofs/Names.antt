@@ -17,9 +17,9 @@ use Rattle.table.specs.declared.Want.{Want}
 use Rattle.table.specs.declared.Want.the-variants.{Any as any, Alike as alike, Float as floats}
 use Rattle.table.specs.Uses.{kindOf, alikeKind, differ, Kinds, kindAt, kindIn, wrong, Names, has, gone, missing}
 use Rattle.rules.specs.declared.OpenBox.{OpenBox as Box}
-use Rattle.machine.specs.declared.Cell.{Cell}
-use Rattle.machine.specs.declared.Cell.the-variants.{Unwritten as unwritten, Holds as held}
-use Rattle.machine.specs.Machine.{Vars, cellAt, isWritten, cellKind, cellValue, written, kindNow, cellOk, cellsOk}
+use Rattle.state.specs.declared.Cell.{Cell}
+use Rattle.state.specs.declared.Cell.the-variants.{Unwritten as unwritten, Holds as held}
+use Rattle.state.specs.State.{Vars, cellAt, isWritten, cellKind, cellValue, written, kindNow, cellOk, cellsOk}
 use Rattle.safety.proofs.Laws.{no′, or-l, or-r, or-f, not-f, AfterSet, getD-set, getD-rep}
 use Rattle.safety.proofs.Sure.{isKnown, Within}
 

@@ -12,11 +12,12 @@ use Rattle.table.specs.declared.Script.{Script}
 use Rattle.table.specs.declared.Sort.the-variants.{Loop as loopBox, Sweep as sweepBox}
 use Rattle.script.specs.Load.{loaded}
 use Rattle.rules.specs.Check.{accepted, verdict}
-use Rattle.machine.specs.declared.Control.{Control}
-use Rattle.machine.specs.declared.Control.the-variants.{None as noControl, Z, Y}
-use Rattle.machine.specs.declared.Offer.{Offer}
-use Rattle.machine.specs.declared.Offer.the-variants.{Nothing as nothing, Float as oneFloat, Point as onePoint, Done as done}
-use Rattle.machine.specs.Machine.{da, ba, code0010, Run, Out, enters, leaves, packStart, packEnd, packPart, says, waits, setsE, setsMode, switchesCell, Answer, running, waiting, finished, stopped, refuse, fresh, step}
+use Rattle.state.specs.declared.Control.{Control}
+use Rattle.state.specs.declared.Control.the-variants.{None as noControl, Z, Y}
+use Rattle.state.specs.declared.Offer.{Offer}
+use Rattle.state.specs.declared.Offer.the-variants.{Nothing as nothing, Float as oneFloat, Point as onePoint, Done as done}
+use Rattle.state.specs.State.{da, ba, code0010, Run, Out, enters, leaves, packStart, packEnd, packPart, says, waits, setsE, setsMode, switchesCell, Answer, running, waiting, finished, stopped, refuse, fresh}
+use Rattle.machine.specs.Machine.{step}
 use Rattle.safety.specs.Texts.{night}
 use Rattle.safety.proofs.Opened.{all}
 

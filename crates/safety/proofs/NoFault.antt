@@ -18,7 +18,8 @@ use Rattle.mates.specs.declared.Open.{Open}
 use Rattle.mates.specs.Mates.{boxesAt, closeOf, itemAt}
 use Rattle.rules.specs.declared.OpenBox.{OpenBox as Box}
 use Rattle.rules.specs.Check.{State, anyBox}
-use Rattle.machine.specs.Machine.{Vars, written, kindNow, holds, Run, isEmpty as noneOpen, unwind, inside, isNone, strays, reads, faults, Chosen, choose, badOf, tries}
+use Rattle.state.specs.State.{Vars, written, kindNow, holds, Run}
+use Rattle.machine.specs.Machine.{isEmpty as noneOpen, unwind, inside, isNone, strays, reads, faults, Chosen, choose, badOf, tries}
 use Rattle.safety.proofs.Laws.{no, no′, not-f, drop-getD}
 use Rattle.safety.proofs.Walk.{textKinds, Accepted, more, Clean, closes-fits, branch-fits, clean}
 use Rattle.safety.proofs.Boxes.{erase, Headed, Heads}

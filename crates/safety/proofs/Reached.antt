@@ -3,10 +3,10 @@ use Prim.Native.Nat.{ℕ}
 use mathlib.Core.Path.{refl}
 use mathlib.Core.List.{List, _∷_, _++_}
 use lib.ListN.{replicate}
-use Rattle.machine.specs.declared.Control.{Control}
-use Rattle.machine.specs.declared.Control.the-variants.{None as noControl, Z}
-use Rattle.machine.specs.declared.Offer.{Offer}
-use Rattle.machine.specs.declared.Offer.the-variants.{Nothing as nothing, Done as done}
+use Rattle.state.specs.declared.Control.{Control}
+use Rattle.state.specs.declared.Control.the-variants.{None as noControl, Z}
+use Rattle.state.specs.declared.Offer.{Offer}
+use Rattle.state.specs.declared.Offer.the-variants.{Nothing as nothing, Done as done}
 use Rattle.safety.specs.Safety.{Reaches}
 use Rattle.safety.specs.Texts.{unwritten, unlike, stray, deep, loose, after-loop, after-sweep, after-tag, after-if, after-copy}
 use Rattle.safety.proofs.Opened.{all}

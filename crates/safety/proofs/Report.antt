@@ -17,9 +17,9 @@ use Rattle.rules.specs.declared.Verdict.{Verdict as Judgement}
 use Rattle.rules.specs.declared.Verdict.the-variants as rule
 use Rattle.rules.specs.Check.{Verdict, accepted, refused, verdict}
 use Rattle.rules.specs.Verdict.{numberOf as ruleNumber, meaning as verdictMeaning}
-use Rattle.machine.specs.declared.Control.{Control}
-use Rattle.machine.specs.declared.Offer.{Offer}
-use Rattle.machine.specs.Machine.{fresh}
+use Rattle.state.specs.declared.Control.{Control}
+use Rattle.state.specs.declared.Offer.{Offer}
+use Rattle.state.specs.State.{fresh}
 use Rattle.safety.specs.Safety.{answersFrom, allAllowed}
 use Rattle.safety.specs.Outcome.{Outcome, refusal, judged, checkedOutcome, outcome}
 use Rattle.safety.proofs.Safe.{answers-allowed}

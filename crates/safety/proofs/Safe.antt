@@ -10,9 +10,10 @@ use Rattle.table.specs.declared.Script.{Script}
 use Rattle.table.specs.Shape.{itemsOf, itemsOk, inShape}
 use Rattle.script.specs.Load.{loaded}
 use Rattle.rules.specs.Check.{Verdict, accepted, refused, atLine, walked, verdict}
-use Rattle.machine.specs.declared.Control.{Control}
-use Rattle.machine.specs.declared.Offer.{Offer}
-use Rattle.machine.specs.Machine.{Run, fresh, step}
+use Rattle.state.specs.declared.Control.{Control}
+use Rattle.state.specs.declared.Offer.{Offer}
+use Rattle.state.specs.State.{Run, fresh}
+use Rattle.machine.specs.Machine.{step}
 use Rattle.safety.specs.Safety.{Promises, Safe, SafeText, answersFrom, allAllowed}
 use Rattle.safety.proofs.Laws.{and-l, and-r, and-t}
 use Rattle.safety.proofs.Walk.{Accepted}

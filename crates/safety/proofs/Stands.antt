@@ -17,7 +17,8 @@ use Rattle.mates.specs.declared.Open.{Open}
 use Rattle.mates.specs.Mates.{closeOf, itemAt}
 use Rattle.rules.specs.declared.OpenBox.{OpenBox as Box}
 use Rattle.rules.specs.Check.{learn, kindsOf, State}
-use Rattle.machine.specs.Machine.{Status, live, finishedRun, stoppedRun, faultRun, Run, outside, isNone, opensOk, runOk}
+use Rattle.state.specs.State.{Status, live, finishedRun, stoppedRun, faultRun, Run}
+use Rattle.machine.specs.Machine.{outside, isNone, opensOk, runOk}
 use Rattle.safety.specs.Safety.{isCode}
 use Rattle.safety.proofs.Laws.{no, no′, and-t, drop-getD}
 use Rattle.safety.proofs.Walk.{textKinds, Accepted, state, Reach, clean, reach-kinds}

@@ -17,11 +17,12 @@ use Rattle.table.specs.Item.{isSweep}
 use Rattle.table.specs.Uses.{gives, Kinds, Names, first}
 use Rattle.rules.specs.declared.OpenBox.{OpenBox as Box}
 use Rattle.rules.specs.Check.{State, isEmpty}
-use Rattle.machine.specs.declared.Control.{Control}
-use Rattle.machine.specs.declared.Control.the-variants.{None as noControl, Z, Y}
-use Rattle.machine.specs.declared.Offer.{Offer}
-use Rattle.machine.specs.declared.Offer.the-variants.{Nothing as nothing, Float as oneFloat, Point as onePoint, Done as done}
-use Rattle.machine.specs.Machine.{Run, Out, Step, isEmpty as noneOpen, anyOpen, leaveOuts, isNone, said, next, run, Meets, ready, short, amiss, asksNothing, asksFloat, asksPoint, meets, served, finish, atItem, told, tagFrom, cleared, aborted, moved, runOk}
+use Rattle.state.specs.declared.Control.{Control}
+use Rattle.state.specs.declared.Control.the-variants.{None as noControl, Z, Y}
+use Rattle.state.specs.declared.Offer.{Offer}
+use Rattle.state.specs.declared.Offer.the-variants.{Nothing as nothing, Float as oneFloat, Point as onePoint, Done as done}
+use Rattle.state.specs.State.{Run, Out, Step, said, Meets, ready, short, amiss, asksNothing, asksFloat, asksPoint, meets, cleared}
+use Rattle.machine.specs.Machine.{isEmpty as noneOpen, anyOpen, leaveOuts, isNone, next, run, served, finish, atItem, told, tagFrom, aborted, moved, runOk}
 use Rattle.safety.specs.Safety.{wantsNothing, wantsFloat, wantsPoint, wantedBy, wantedFrom, abortDue, wantedAt, mismatch}
 use Rattle.safety.proofs.Laws.{no, no′, or-r, and-r, not-t, not-nothing}
 use Rattle.safety.proofs.Walk.{Accepted, state, Reach, outset, more, clean, ends}

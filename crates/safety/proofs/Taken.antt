@@ -11,10 +11,11 @@ use lib.ListN.{length, getD, set, take, drop, replicate, drop-of-length-le, leng
 use lib.Seq.{take-all, take-suc-set, drop-cons, drop-set-lt, length-take-le}
 use borrow.Author.Tests.{ltb-true, ltb-false}
 use Rattle.table.specs.declared.Script.{Script}
-use Rattle.machine.specs.declared.Control.{Control}
-use Rattle.machine.specs.declared.Offer.{Offer}
-use Rattle.machine.specs.Machine.{Run, Answer, running, Step, step}
-use Rattle.machine.specs.Meaning.{answerOf}
+use Rattle.state.specs.declared.Control.{Control}
+use Rattle.state.specs.declared.Offer.{Offer}
+use Rattle.state.specs.State.{Run, Answer, running, Step}
+use Rattle.machine.specs.Machine.{step}
+use Rattle.state.specs.Meaning.{answerOf}
 use Rattle.safety.specs.declared.Told.{Told}
 use Rattle.safety.specs.declared.Said.{Said}
 use Rattle.safety.specs.Safety.{answersFrom}

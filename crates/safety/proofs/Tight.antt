@@ -5,23 +5,15 @@ use mathlib.Core.Bool.{true, cond}
 use mathlib.Core.List.{List, [], _∷_, _++_}
 use native.Mathlib.Omega.{arith}
 use lib.Dec.{eqb, ltb}
-use lib.ListN.{length, take, drop, replicate, take-append-drop}
+use lib.ListN.{length, take, replicate, take-append-drop}
 use lib.Seq.{length-take-le}
 use Rattle.argument.specs.declared.Refusal.{Refusal}
 use Rattle.argument.specs.declared.Refusal.the-variants.{TooLong, NoEnd, LongLine, TooManyItems, UnknownCommand, BadArguments, Undeclared, DeclaredTwice, TooManyNames}
 use Rattle.argument.specs.Refusal.{numberOf as formNumber}
 use Rattle.rules.specs.declared.Rule.{Rule}
 use Rattle.rules.specs.declared.Rule.the-variants.{Kinds, Unwritten, Mark, Ninth, Package, Tag, SameName, Nested, Shape}
-use Rattle.machine.specs.declared.Stop.{Stop}
-use Rattle.machine.specs.declared.Stop.the-variants.{ByZero, NotFinite}
-use Rattle.machine.specs.declared.Fault.{Fault}
-use Rattle.machine.specs.declared.Fault.the-variants as fault
-use Rattle.machine.specs.declared.Refusal.{Refusal as Refused}
-use Rattle.machine.specs.declared.Refusal.the-variants as refused
-use Rattle.machine.specs.declared.Answer.{Answer}
-use Rattle.machine.specs.declared.Answer.the-variants as answer
-use Rattle.machine.specs.Machine as machine
-use Rattle.machine.specs.Meaning.{answerOf}
+use Rattle.state.specs.State.{Answer, running}
+use Rattle.state.proofs.Tight.{answerBack, answer-back}
 use Rattle.safety.specs.declared.Said.{Said}
 use Rattle.safety.specs.declared.Judged.{Judged}
 use Rattle.safety.specs.declared.Judged.the-variants as judged
@@ -80,35 +72,9 @@ judged-back (judged.Rules SameName k) = refl
 judged-back (judged.Rules Nested k) = refl
 judged-back (judged.Rules Shape k) = refl
 
-faultOf : ℕ → Fault
-faultOf n = cond (eqb n 60) fault.Unwritten (cond (eqb n 61) fault.Kind (cond (eqb n 62) fault.Box (cond (eqb n 63) fault.Depth fault.Package)))
-
-backOf : machine.Answer → Answer
-backOf machine.running = answer.Running
-backOf machine.waiting = answer.Waiting
-backOf machine.finished = answer.Finished
-backOf (machine.stopped n) = answer.Stopped (cond (eqb n 16) NotFinite ByZero)
-backOf (machine.fault n) = answer.Fault (faultOf n)
-backOf (machine.refuse n) = answer.Refused (cond (eqb n 30) refused.Shape refused.Reading)
-
-answer-back : (a : Answer) → backOf (answerOf a) ≡ a
-unfolding backOf faultOf
-answer-back answer.Running = refl
-answer-back answer.Waiting = refl
-answer-back answer.Finished = refl
-answer-back (answer.Stopped ByZero) = refl
-answer-back (answer.Stopped NotFinite) = refl
-answer-back (answer.Fault fault.Unwritten) = refl
-answer-back (answer.Fault fault.Kind) = refl
-answer-back (answer.Fault fault.Box) = refl
-answer-back (answer.Fault fault.Depth) = refl
-answer-back (answer.Fault fault.Package) = refl
-answer-back (answer.Refused refused.Shape) = refl
-answer-back (answer.Refused refused.Reading) = refl
-
-saidOf : List machine.Answer → List Said
+saidOf : List Answer → List Said
 saidOf [] = []
-saidOf (a ∷ l) = record { answer = backOf a } ∷ saidOf l
+saidOf (a ∷ l) = record { answer = answerBack a } ∷ saidOf l
 
 said-back : (ss : List Said) → saidOf (allSaid ss) ≡ ss
 unfolding saidOf
@@ -120,7 +86,7 @@ said-back (s ∷ ss) = rw (answer-back (s .answer), said-back ss)
 ranOf : Outcome → Ran
 ranOf o = record {
   judged = judgedOf (o .number) (o .line);
-  answers = record { at = saidOf (o .answers ++ replicate (64 - length (o .answers)) machine.running); count = length (o .answers) };
+  answers = record { at = saidOf (o .answers ++ replicate (64 - length (o .answers)) running); count = length (o .answers) };
 }
 
 ran-back : (x : Ran) → length (x .answers .at) ≡ 64 → Blank (x .answers) → ranOf (meaning x) ≡ x

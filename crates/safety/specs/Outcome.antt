@@ -10,10 +10,10 @@ use Rattle.argument.specs.Refusal.{numberOf as formNumber}
 use Rattle.script.specs.Load.{loaded}
 use Rattle.rules.specs.Check.{Verdict, accepted, refused, verdict}
 use Rattle.rules.specs.Verdict.{numberOf as ruleNumber}
-use Rattle.machine.specs.declared.Control.{Control}
-use Rattle.machine.specs.declared.Offer.{Offer}
-use Rattle.machine.specs.Machine.{Answer, running, fresh}
-use Rattle.machine.specs.Meaning.{answerOf}
+use Rattle.state.specs.declared.Control.{Control}
+use Rattle.state.specs.declared.Offer.{Offer}
+use Rattle.state.specs.State.{Answer, running, fresh}
+use Rattle.state.specs.Meaning.{answerOf}
 use Rattle.safety.specs.Safety.{answersFrom}
 use Rattle.safety.specs.declared.Told.{Told}
 use Rattle.safety.specs.declared.Steps.{Steps}

@@ -16,10 +16,11 @@ use Rattle.table.specs.Item.{isSweep}
 use Rattle.table.specs.Shape.{itemsOf}
 use Rattle.script.specs.Load.{loaded}
 use Rattle.rules.specs.Check.{accepted, refused, verdict}
-use Rattle.machine.specs.declared.Control.{Control}
-use Rattle.machine.specs.declared.Offer.{Offer}
-use Rattle.machine.specs.declared.Offer.the-variants.{Nothing as nothing, Float as oneFloat, Point as onePoint, Done as done}
-use Rattle.machine.specs.Machine.{Status, live, finishedRun, stoppedRun, faultRun, code0028, code0010, Run, Answer, running, waiting, finished, stopped, fault, refuse, Step, fresh, anyOpen, told, step}
+use Rattle.state.specs.declared.Control.{Control}
+use Rattle.state.specs.declared.Offer.{Offer}
+use Rattle.state.specs.declared.Offer.the-variants.{Nothing as nothing, Float as oneFloat, Point as onePoint, Done as done}
+use Rattle.state.specs.State.{Status, live, finishedRun, stoppedRun, faultRun, code0028, code0010, Run, Answer, running, waiting, finished, stopped, fault, refuse, Step, fresh}
+use Rattle.machine.specs.Machine.{anyOpen, told, step}
 
 -- ---- an offer of the wrong sort
 

@@ -1,15 +1,15 @@
 // Demand 3 for a caller: a script's text is loaded, checked and run from fresh, and the answers are never 30 and never a fault.
 use argument::Refusal;
-use machine::Answer;
-use machine::Control;
-use machine::Offer;
 use rules::Rule;
+use state::Answer;
+use state::Control;
+use state::Offer;
 use table::Script;
 ghost use mathlib.Core.Path.{_≡_};
 ghost use mathlib.Core.Bool.{true};
 ghost use mathlib.Core.List.{[]};
 ghost use lib.ListN.{length};
-ghost use Rattle.machine.specs.Machine.{fresh};
+ghost use Rattle.state.specs.State.{fresh};
 ghost use Rattle.safety.specs.Safety.{answersFrom, allAllowed};
 ghost use Rattle.safety.specs.Outcome.{Outcome, refusal, checkedOutcome, outcome, stepsOf, answersOf, atMost, Blank, numberOf, lineOf, meaning};
 
@@ -62,7 +62,7 @@ fn along(text: &[u8], script: Script, steps: Steps) -> Answers
         answer: Answer::Running,
     }; 64];
     let n = at_most(steps.count);
-    let mut state = machine::fresh();
+    let mut state = state::fresh();
     let mut i = 0;
     while i < n {
         let told = steps.at[i];

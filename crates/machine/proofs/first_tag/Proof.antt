@@ -5,8 +5,8 @@ use Rattle.table.specs.Shape.{itemsOf}
 use borrow.Author.Needs.{needs}
 use native.Mathlib.Omega.{arith}
 use lib.ListN.{drop, length-map}
-use mathlib.Core.Path.{_≡_, refl, sym, ap, _∙_}
-use Prim.Native.Nat.{_-_, _≤_}
+use mathlib.Core.Path.{_≡_, refl, sym, _∙_}
+use Prim.Native.Nat.{_-_}
 use Rattle.machine.proofs.first_tag.Statement.{statement}
 use Rattle.machine.proofs.first_tag.Tie as tie
 

@@ -1,12 +1,13 @@
 use Rattle.machine.proofs.Placed.{leave-more}
-use Rattle.machine.proofs.Boxes.{at-zero}
-use Rattle.machine.specs.Code.{Seen, handedOf}
-use Rattle.machine.specs.Meaning.{tops}
+use Rattle.state.proofs.Boxes.{at-zero}
+use Rattle.machine.specs.Code.{handedOf}
+use Rattle.mates.specs.Marks.{Seen}
+use Rattle.state.specs.Meaning.{tops}
 use Rattle.machine.specs.Machine.{leaveOuts}
 use borrow.Author.Needs.{needs}
 use native.Mathlib.Omega.{arith}
 use mathlib.Core.List.{_++_, append-nil}
-use mathlib.Core.Path.{_≡_, refl, sym, ap, _∙_}
+use mathlib.Core.Path.{_≡_, sym, _∙_}
 use Prim.Native.Nat.{_-_, _+_, _≤_}
 use Rattle.machine.proofs.leave_all.Statement.{statement}
 use Rattle.machine.proofs.leave_all.Tie as tie
@@ -17,11 +18,11 @@ Inv-loop marks m h₀ k₀ h k = (h .count + k ≤ 8) × Seen (marks .at) (λ xs
 abbrev μ-loop : tie.MeasureT-loop
 μ-loop marks m h₀ k₀ h k = k
 
-no-things-requires : tie.Need-no-things-requires Inv-loop μ-loop
-no-things-requires c κs = search needs
+none-handed-requires : tie.Need-none-handed-requires Inv-loop μ-loop
+none-handed-requires c κs = search needs
 
 loop-holds : tie.Need-loop-holds Inv-loop μ-loop
-loop-holds c = (search needs, λ xs k. refl)
+loop-holds c = (omega (arith, c .none-handed .ensures .1, c .before .pre), λ xs k. rw (c .none-handed .ensures .0))
 
 sub-p : tie.Need-sub-p Inv-loop μ-loop
 sub-p c = search needs
@@ -51,5 +52,5 @@ pub leave-all-spec : {M : Type 1} → statement M
 leave-all-spec =
     tie.close
     (tie.spec
-    Inv-loop μ-loop no-things-requires loop-holds sub-p mul-p element-copy-out-p leave-one-requires
+    Inv-loop μ-loop none-handed-requires loop-holds sub-p mul-p element-copy-out-p leave-one-requires
     sub-k loop-less loop-again returns)

@@ -1,10 +1,12 @@
-use Rattle.machine.proofs.Boxes.{tops-top, at-zero}
-use Rattle.machine.specs.Code.{Seen}
-use Rattle.machine.specs.Meaning.{tops}
+use Rattle.table.specs.Item.{isLoop}
+use Rattle.mates.proofs.Placed.{opens-seen}
+use Rattle.state.proofs.Boxes.{tops-top, at-zero}
+use Rattle.mates.specs.Marks.{Seen}
+use Rattle.state.specs.Meaning.{tops}
 use Rattle.machine.specs.Machine.{unwind}
 use borrow.Author.Needs.{needs}
 use native.Mathlib.Omega.{arith}
-use mathlib.Core.Path.{_≡_, refl, sym, ap, _∙_}
+use mathlib.Core.Path.{_≡_, refl, _∙_}
 use Prim.Native.Nat.{_-_, _≤_}
 use Rattle.machine.proofs.loop_depth.Statement.{statement}
 use Rattle.machine.proofs.loop_depth.Tie as tie
@@ -31,7 +33,7 @@ loop-at-requires : tie.Need-loop-at-requires Inv-loop μ-loop
 loop-at-requires c κs = search needs
 
 returns : tie.Need-returns Inv-loop μ-loop
-returns c = (c .before .before .before .before .loop .inv .0, λ xs k. c .before .before .before .before .loop .inv .1 xs k ∙ rw (tops-top (c .before .before .before .before .before .args .t2 .boxes) (c .before .before .before .before .loop .k) (λ e. omega (arith, c .before .before .before .loop-test .taken)), ← (c .before .loop-at .ensures xs k), c .if1 .taken))
+returns c = (c .before .before .before .before .loop .inv .0, λ xs k. c .before .before .before .before .loop .inv .1 xs k ∙ rw (tops-top (c .before .before .before .before .before .args .t2 .boxes) (c .before .before .before .before .loop .k) (λ e. omega (arith, c .before .before .before .loop-test .taken)), ← ((c .before .loop-at .ensures ∙ opens-seen xs _ k _ isLoop)), c .if1 .taken))
 
 sub-k : tie.Need-sub-k Inv-loop μ-loop
 sub-k c = search needs
@@ -40,7 +42,7 @@ loop-less : tie.Need-loop-less Inv-loop μ-loop
 loop-less c = search needs
 
 loop-again : tie.Need-loop-again Inv-loop μ-loop
-loop-again c = (search needs, λ xs k. c .before .before .before .before .loop .inv .1 xs k ∙ rw (tops-top (c .before .before .before .before .before .args .t2 .boxes) (c .before .before .before .before .loop .k) (λ e. omega (arith, c .before .before .before .loop-test .taken)), ← (c .before .loop-at .ensures xs k), c .if1 .left))
+loop-again c = (search needs, λ xs k. c .before .before .before .before .loop .inv .1 xs k ∙ rw (tops-top (c .before .before .before .before .before .args .t2 .boxes) (c .before .before .before .before .loop .k) (λ e. omega (arith, c .before .before .before .loop-test .taken)), ← ((c .before .loop-at .ensures ∙ opens-seen xs _ k _ isLoop)), c .if1 .left))
 
 returns-2 : tie.Need-returns-2 Inv-loop μ-loop
 returns-2 c = (search needs, λ xs k. c .before .loop .inv .1 xs k ∙ rw (at-zero (c .before .loop .k) (c .loop-test .left)))

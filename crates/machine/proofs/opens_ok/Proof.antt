@@ -1,12 +1,12 @@
-use Rattle.machine.proofs.Boxes.{tops-top, at-zero}
-use Rattle.machine.specs.Code.{Seen}
-use Rattle.machine.specs.Meaning.{tops}
+use Rattle.state.proofs.Boxes.{tops-top, at-zero}
+use Rattle.mates.specs.Marks.{Seen}
+use Rattle.state.specs.Meaning.{tops}
 use Rattle.machine.specs.Machine.{opensOk}
 use borrow.Author.Tests.{not-true, not-false}
 use borrow.Author.Needs.{needs}
 use native.Mathlib.Omega.{arith}
 use lib.ListN.{length}
-use mathlib.Core.Path.{_≡_, refl, sym, ap, _∙_}
+use mathlib.Core.Path.{_≡_, refl, sym, _∙_}
 use Prim.Native.Nat.{_-_, _≤_}
 use Rattle.machine.proofs.opens_ok.Statement.{statement}
 use Rattle.machine.proofs.opens_ok.Tie as tie

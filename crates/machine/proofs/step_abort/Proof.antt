@@ -1,13 +1,11 @@
 use Rattle.machine.proofs.Steps.{tag-below}
-use Rattle.machine.proofs.Chain.{count-items}
 use Rattle.machine.specs.Moves.{placeOf}
 use Rattle.table.specs.Shape.{itemsOf}
 use borrow.Author.Tests.{lt-ltb, le-ltb}
 use native.Mathlib.Omega.{arith}
-use lib.ListN.{length, length-map}
-use Prim.Native.Nat.{ℕ, _<_}
-use mathlib.Core.Option.{Option, some}
-use mathlib.Core.Path.{_≡_, sym, ap, _∙_}
+use lib.ListN.{length}
+use Prim.Native.Nat.{_<_}
+use mathlib.Core.Path.{sym, ap, _∙_}
 use borrow.Author.Needs.{needs}
 use Rattle.machine.proofs.step_abort.Statement.{statement}
 use Rattle.machine.proofs.step_abort.Tie as tie

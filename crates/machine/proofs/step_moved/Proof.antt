@@ -1,10 +1,10 @@
 use Rattle.machine.proofs.Steps.{at-end}
 use Rattle.machine.proofs.Chain.{count-items}
-use Rattle.machine.specs.Meaning.{runOf}
+use Rattle.state.specs.Meaning.{runOf}
 use Rattle.table.specs.Shape.{itemsOf}
 use native.Mathlib.Omega.{arith}
 use lib.ListN.{length-map}
-use mathlib.Core.Path.{_≡_, sym, ap, _∙_}
+use mathlib.Core.Path.{sym, _∙_}
 use borrow.Author.Needs.{needs}
 use Rattle.machine.proofs.step_moved.Statement.{statement}
 use Rattle.machine.proofs.step_moved.Tie as tie

@@ -1,5 +1,5 @@
 use Rattle.machine.proofs.Steps.{faults-by-is}
-use mathlib.Core.Path.{sym, ap, _∙_}
+use mathlib.Core.Path.{_∙_}
 use borrow.Author.Needs.{needs}
 use Rattle.machine.proofs.try_item.Statement.{statement}
 use Rattle.machine.proofs.try_item.Tie as tie
@@ -29,7 +29,7 @@ returns-2 : tie.Need-returns-2
 returns-2 c = λ xs k e. c .serve-item2 .ensures xs k e ∙ rw (c .before .enum-told2 .given .1)
 
 returns-3 : tie.Need-returns-3
-returns-3 c = λ xs k e. c .fault-by .ensures ∙ rw (c .before .before .c .given .1) (faults-by-is (c .before .before .c .given .0 .0) _ _)
+returns-3 c = λ xs k e. c .fault-by .ensures .0 ∙ rw (c .before .before .c .given .1) (faults-by-is (c .before .before .c .given .0 .0) _ _)
 
 pub try-item-spec : {M : Type 1} → statement M
 try-item-spec =

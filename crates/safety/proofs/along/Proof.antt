@@ -5,8 +5,8 @@ use mathlib.Core.Path.{_≡_, refl, _∙_}
 use native.Mathlib.Omega.{arith}
 use borrow.Author.Needs.{needs}
 use lib.ListN.{length, take, length-map}
-use Rattle.machine.specs.Machine.{fresh}
-use Rattle.machine.specs.Meaning.{runOf}
+use Rattle.state.specs.State.{fresh}
+use Rattle.state.specs.Meaning.{runOf}
 use Rattle.safety.specs.Safety.{answersFrom}
 use Rattle.safety.specs.Outcome.{allTold}
 use Rattle.safety.proofs.Taken.{Taken, at-most-few, told-few, taken-more, taken-all, blank-all}

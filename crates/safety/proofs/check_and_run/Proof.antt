@@ -3,7 +3,7 @@ use mathlib.Core.Path.{sym, ap, _∙_}
 use mathlib.Core.List.{List}
 use borrow.Author.Needs.{needs}
 use lib.ListN.{length}
-use Rattle.machine.specs.Machine.{Answer}
+use Rattle.state.specs.State.{Answer}
 use Rattle.safety.specs.Outcome.{Outcome, stepsOf}
 use Rattle.safety.proofs.Report.{rules-yes, rules-no}
 use Rattle.safety.proofs.check_and_run.Statement.{statement}
