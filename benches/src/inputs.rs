@@ -1,6 +1,7 @@
 //! What is timed: lines, packages, replies and scripts of fixed sizes.
 
 use second::frame;
+use second::machine::{Control, Offer};
 
 /// A good framed line of every length of content.
 pub fn framed_lines() -> Vec<(Vec<u8>, u8)> {
@@ -56,4 +57,23 @@ pub fn script(items: usize) -> Vec<u8> {
     }
     lines.resize(items, "cell_on");
     (lines.join("\n") + "\n\n").into_bytes()
+}
+
+/// A sweep that sends a package of time, potential and current for each point: eight steps a point.
+pub fn sweep() -> Vec<u8> {
+    b"var e\nvar c\nvar t\nmeas_loop_lsv e c 0 1 1m 100m\ntimer_get t\npck_start\npck_add t\npck_add e\npck_add c\npck_end\nendloop\n\n".to_vec()
+}
+
+/// Where the sweep stands.
+pub const SWEEP: usize = 3;
+
+/// The steps of eight points.
+pub fn points() -> Vec<(Control, Offer)> {
+    let offers = |point: u8| {
+        let mut offers = [Offer::Nothing; 8];
+        offers[0] = Offer::Point(f64::from(point) / 1000.0, 1e-6);
+        offers[1] = Offer::Float(f64::from(point) / 100.0);
+        offers
+    };
+    (0..8).flat_map(offers).map(|offer| (Control::None, offer)).collect()
 }

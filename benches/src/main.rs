@@ -5,7 +5,8 @@ mod inputs;
 use std::hint::black_box;
 
 use compare::proved::{self, Proved};
-use second::program::{Program, Second};
+use second::machine::{Answer, Machine, State, MOST_STEPS};
+use second::program::{Program, Second, Steps};
 use second::reply::{EMPTY, ROWS};
 
 const TURNS: usize = 40;
@@ -132,6 +133,47 @@ fn checks() {
     }
 }
 
+/// So many steps of the second program, told what `steps` has over and over.
+fn second_steps(machine: &Machine, state: &State, steps: &Steps, times: usize) -> usize {
+    let mut state = state.clone();
+    let mut things = Vec::new();
+    for &(control, offer) in steps.iter().cycle().take(times) {
+        black_box(machine.step(&mut state, control, offer, &mut things));
+    }
+    state.at
+}
+
+/// The same, so many at one asking.
+fn second_runs(machine: &Machine, state: &State, steps: &Steps, times: usize) -> usize {
+    (0..times).fold(state.clone(), |state, _| black_box(machine.run(&state, steps, MOST_STEPS)).state).at
+}
+
+/// Steps one by one, each judged and its mates found anew, and 64 at one asking, judged once. An ended run does the
+/// same but its items: what is left is copying and judging, and at 64 a call nearly nothing but copying.
+fn sweeps() {
+    const STEPS: usize = 8_000;
+    let script = inputs::sweep();
+    let (length, points) = (script.len(), inputs::points());
+    let table = second::load::load(&script).expect("good form");
+    let machine = Machine::new(&table, length);
+    let live = State { at: inputs::SWEEP, ..State::default() };
+    let ended = State { ended: Some(Answer::Finished), ..live.clone() };
+    for (what, state) in [("sweep of 1,000 points with a package each", live), ("the same steps of a run that has ended", ended)] {
+        race(
+            &format!("{what}, step by step"),
+            (STEPS, "step"),
+            || proved::step_times(length, &table, &state, &points, STEPS),
+            || second_steps(&machine, &state, &points, STEPS),
+        );
+        race(
+            &format!("{what}, 64 steps a call"),
+            (STEPS, "step"),
+            || proved::run_times(length, &table, &state, &points, STEPS / MOST_STEPS),
+            || second_runs(&machine, &state, &points, STEPS / MOST_STEPS),
+        );
+    }
+}
+
 fn main() {
     println!("| What | Proved, ns | Second, ns | each | Second / proved |");
     println!("|---|---|---|---|---|");
@@ -140,4 +182,5 @@ fn main() {
     replies();
     scripts();
     checks();
+    sweeps();
 }

@@ -48,7 +48,7 @@ use Rattle.machine.specs.Moves.{ninth}
 use Rattle.machine.specs.Settle.{boxOk}
 use Rattle.machine.proofs.Shapes.{and-l, and-r}
 use Rattle.machine.proofs.Placed.{fault-open}
-use Rattle.machine.proofs.Steps.{tag-below, no-ninth}
+use Rattle.machine.proofs.Stepping.{tag-below, no-ninth}
 
 no : {X : Type 0} → false ≡ true → X
 no e = let z : _≡_ {A = ℕ} 0 1 = cc in absurd (omega arith)

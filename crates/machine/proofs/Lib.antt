@@ -2,10 +2,11 @@ pub mod Placed
 pub mod Chain
 pub mod Loops
 pub mod Points
-pub mod Steps
+pub mod Stepping
 pub mod Shapes
 pub mod Keeping
 pub mod Answers
 pub mod Tight
 pub mod Lasting
+pub mod Turns
 pub mod Few

@@ -1,6 +1,6 @@
 -- The tests of a state's shape.
 use Prim.Native.Nat.{ℕ, _-_, _≤_}
-use mathlib.Core.Path.{_≡_, refl}
+use mathlib.Core.Path.{_≡_, refl, sym, _∙_}
 use mathlib.Core.Bool.{Bool, true, false, _&&_}
 use mathlib.Core.List.{List}
 use native.Mathlib.Omega.{arith}
@@ -10,6 +10,8 @@ use borrow.Author.Tests.{leb-true}
 use Rattle.table.specs.declared.Item.{Item}
 use Rattle.table.specs.declared.Script.{Script}
 use Rattle.table.specs.Shape.{inShape, itemsOf, itemsOk}
+use Rattle.mates.specs.declared.Mark.{Mark}
+use Rattle.mates.specs.Marks.{Marked}
 use Rattle.state.specs.State.{Run, cellsOk}
 use Rattle.machine.specs.Machine.{opensOk, runOk}
 use Rattle.machine.specs.Moves.{Stands}
@@ -35,3 +37,12 @@ pub shape-count : (size : ℕ) (s : Script) → inShape size s ≡ true → s .c
 unfolding inShape
 shape-count size s e =
     leb-true (s .count) 128 (and-l (leb (s .count) 128) (leb (s .names) 32) (and-l (leb (s .count) 128 && leb (s .names) 32) (itemsOk (s .names) size (itemsOf s)) e))
+
+pub known-stands : (size : ℕ) (s : Script) (m : Run) (ms : List Mark) (b : Bool) → Marked (itemsOf s) ms → b ≡ (inShape size s && runOk (itemsOf s) m) → b ≡ true
+    → Stands m × (s .count ≤ 128) × Marked (itemsOf s) ms
+known-stands size s m ms b k e q =
+    let f : (inShape size s && runOk (itemsOf s) m) ≡ true = sym e ∙ q in (
+      shape-stands (itemsOf s) m (k .few) (and-r (inShape size s) (runOk (itemsOf s) m) f),
+      shape-count size s (and-l (inShape size s) (runOk (itemsOf s) m) f),
+      k,
+    )

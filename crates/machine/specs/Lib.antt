@@ -4,3 +4,4 @@ pub mod Code
 pub mod Moves
 pub mod Exact
 pub mod Settle
+pub mod Course

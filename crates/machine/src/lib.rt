@@ -36,7 +36,8 @@ ghost use mathlib.Core.Bool.{true, false, _&&_, _||_, not, cond};
 ghost use mathlib.Core.List.{[], _∷_, _++_};
 ghost use Prim.Native.Nat.{_+_, _-_, _≤_, _<_};
 ghost use lib.Dec.{leb};
-ghost use lib.ListN.{set, length, drop};
+ghost use lib.Seq.{sets};
+ghost use lib.ListN.{set, length, take, drop};
 ghost use Rattle.table.specs.Item.{isOpen, isTag, isLoop, isSweep, opensA, sortOf};
 ghost use Rattle.value.specs.Arithmetic.{calculated};
 ghost use Rattle.table.specs.declared.Sort.the-variants.{Loop as loopBox};
@@ -45,7 +46,7 @@ ghost use Rattle.table.specs.declared.Item.the-variants.{Open as opens, Branch 
 ghost use Rattle.table.specs.declared.Head.the-variants.{If as if'};
 ghost use Rattle.table.specs.declared.Branch.the-variants.{ElseIf as elseif};
 ghost use Rattle.table.specs.Uses.{first, gives, allWants, conditionUses};
-ghost use Rattle.table.specs.Shape.{itemsOf};
+ghost use Rattle.table.specs.Shape.{itemsOf, inShape};
 ghost use Rattle.mates.specs.Mates.{boxesAt, itemAt};
 ghost use Rattle.mates.specs.Marks.{Marked, Seen};
 ghost use Rattle.machine.specs.Machine as rules;
@@ -56,14 +57,45 @@ ghost use Rattle.machine.specs.Machine.{runPoint, runSweep, runHead, cho
 ghost use Rattle.machine.specs.Machine.{atItem, told, tagFrom, aborted, moved, again, opensOk, runOk};
 ghost use Rattle.state.specs.Meaning.{runOf, answerOf, tops, outOf, meaning};
 ghost use Rattle.machine.specs.Exact.{Exact};
-ghost use Rattle.machine.specs.Settle.{Faithful, Settled, boxOk};
+ghost use Rattle.machine.specs.Settle.{Faithful, Settled, boxOk, least, stepKnown};
+ghost use Rattle.machine.specs.Course.{stepsOf, ExactRun};
 ghost use Rattle.machine.specs.Moves.{Stands, ninth, placeOf};
 ghost use Rattle.machine.specs.Code.{handedOf, troubleOf, boxFault, triedBy, triedAt, chosenOf, chosenAt};
 
 const BOXES: usize = 8;
 
+const THINGS: usize = 8;
+
+const MOST_STEPS: usize = 64;
+
 // A type is its first letter times 256, and its second.
 const TYPE_EB: u16 = 25954;
+
+// What one step takes.
+pub struct Told {
+    pub control: Control,
+    pub offer: Offer,
+}
+
+pub struct Steps {
+    pub at: [Told; 64],
+    pub count: usize,
+}
+
+// A step's answer, and how many things it handed out.
+pub struct Said {
+    pub answer: Answer,
+    pub things: usize,
+}
+
+// The state after the last step, each step's answer, and all the things handed out, in order.
+pub struct Ran {
+    pub state: State,
+    pub answers: [Said; 64],
+    pub count: usize,
+    pub things: [Thing; 512],
+    pub handed: usize,
+}
 
 // ---- the state anew
 
@@ -1018,23 +1050,102 @@ fn settle(before: State, r: Stepped) -> Stepped
     state::tidy(r)
 }
 
+// The table and the state are in shape.
+fn in_order(text: &[u8], script: Script, marks: Marks, m: State) -> bool
+    requires { ⌜ Marked (itemsOf script) (marks .at) ⌝ }
+    ensures { λ r. ⌜ r ≡ (inShape (length (now (text .entry))) script && runOk (itemsOf script) (runOf m)) ⌝ }
+{
+    if !table::in_shape(text, script) {
+        return false;
+    }
+    state_ok(marks, script.count, m)
+}
+
+// A step, where it is known whether table and state are in shape.
+fn step_known(script: Script, marks: Marks, shaped: bool, m: State, c: Control, o: Offer) -> Stepped
+    requires { ⌜ (shaped ≡ true → Stands (runOf m) × (script .count ≤ 128) × Marked (itemsOf script) (marks .at)) ⌝ }
+    ensures { λ r. ⌜ Settled m (stepKnown shaped (itemsOf script) (runOf m) c o) r ⌝ }
+{
+    if !shaped {
+        return settle(m, state::answered(m, Answer::Refused(Refusal::Shape)));
+    }
+    settle(m, step_shaped(script, marks, m, c, o))
+}
+
 // One step: the script's bytes, its table, the state, a control and an offer.
 pub fn step(text: &[u8], script: Script, state: State, control: Control, offer: Offer) -> Stepped
     ensures { λ r. ⌜ Exact (length (now (text .entry))) script state control offer r ⌝ }
 {
-    if !table::in_shape(text, script) {
-        return settle(
-            state,
-            state::answered(state, Answer::Refused(Refusal::Shape)),
-        );
-    }
     let marks = mates::marks_of(script);
-    let n = script.count;
-    if !state_ok(marks, n, state) {
-        return settle(
-            state,
-            state::answered(state, Answer::Refused(Refusal::Shape)),
-        );
+    let shaped = in_order(text, script, marks, state);
+    step_known(script, marks, shaped, state, control, offer)
+}
+
+// ---- steps one after the other
+
+fn at_most(n: usize, most: usize) -> usize
+    ensures { λ r. ⌜ r ≡ least n most ⌝ }
+{
+    if n <= most { n } else { most }
+}
+
+// The row with eight things more, from place n on.
+fn put_things(row: [Thing; 512], n: usize, things: [Thing; 8]) -> [Thing; 512]
+    requires { ⌜ n ≤ 504 ⌝ }
+    ensures { λ r. ⌜ r ≡ sets row n things ⌝ }
+{
+    let mut t = row;
+    let mut i = 0;
+    while i < THINGS {
+        let thing = things[i];
+        t[n + i] = thing;
+        i += 1;
     }
-    settle(state, step_shaped(script, marks, state, control, offer))
+    t
+}
+
+// The first steps of those told, as many as the budget allows, one after the other. A step from a state in shape leaves one in shape, so that shape
+// and mates are looked at once.
+pub fn run(text: &[u8], script: Script, state: State, steps: Steps, budget: usize) -> Ran
+    ensures { λ r. ⌜ ExactRun (length (now (text .entry))) script state (take budget (stepsOf steps)) r ⌝ }
+{
+    let n = at_most(at_most(budget, steps.count), MOST_STEPS);
+    let marks = mates::marks_of(script);
+    let shaped = in_order(text, script, marks, state);
+    let mut answers = [Said {
+        answer: Answer::Running,
+        things: 0,
+    }; 64];
+    let mut things = [Thing {
+        what: What::Nothing,
+    }; 512];
+    let mut handed = 0;
+    let mut m = state;
+    let mut i = 0;
+    while i < n {
+        let told = steps.at[i];
+        let control = told.control;
+        let offer = told.offer;
+        let stepped = step_known(script, marks, shaped, m, control, offer);
+        let next = stepped.state;
+        m = next;
+        let answer = stepped.answer;
+        let count = stepped.count;
+        answers[i] = Said {
+            answer: answer,
+            things: count,
+        };
+        let some = stepped.things;
+        let row = put_things(things, handed, some);
+        things = row;
+        handed += count;
+        i += 1;
+    }
+    Ran {
+        state: m,
+        answers: answers,
+        count: n,
+        things: things,
+        handed: handed,
+    }
 }

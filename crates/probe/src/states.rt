@@ -208,7 +208,7 @@ fn var_of(n: VarNumbers) -> Var {
     }
 }
 
-fn state_numbers(state: State) -> StateNumbers {
+pub fn state_numbers(state: State) -> StateNumbers {
     let mut vars = [VarNumbers {
         written: false,
         kind: 0,
@@ -258,6 +258,10 @@ pub fn state_of(n: StateNumbers) -> State {
     }
 }
 
+pub fn no_thing() -> ThingNumbers {
+    plain_thing(NOTHING, 0, 0)
+}
+
 fn plain_thing(sort: u8, first: usize, second: usize) -> ThingNumbers {
     ThingNumbers {
         sort: sort,
@@ -298,7 +302,7 @@ fn order_numbers(order: Order) -> ThingNumbers {
     }
 }
 
-fn thing_numbers(thing: Thing) -> ThingNumbers {
+pub fn thing_numbers(thing: Thing) -> ThingNumbers {
     let what = thing.what;
     match what {
         What::Nothing => plain_thing(NOTHING, 0, 0),

@@ -15,6 +15,5 @@ pub mod Safe
 pub mod Opened
 pub mod Reached
 pub mod Night
-pub mod Taken
 pub mod Report
 pub mod Tight

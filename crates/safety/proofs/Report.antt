@@ -1,10 +1,12 @@
 -- What a caller is told, by the answers of the loader and of the checker.
 use Prim.Native.Nat.{ℕ}
-use mathlib.Core.Path.{_≡_, refl, sym, ap, _∙_}
+use mathlib.Core.Path.{_≡_, refl, sym, ap, subst, _∙_}
 use mathlib.Core.Bool.{Bool, true, false, cond}
 use mathlib.Core.List.{List}
 use lib.Dec.{eqb}
-use lib.ListN.{length}
+use native.Mathlib.Omega.{arith}
+use lib.ListN.{length, take}
+use lib.Seq.{take-take}
 use Rattle.table.specs.declared.Script.{Script}
 use Rattle.argument.specs.declared.Refusal.{Refusal}
 use Rattle.argument.specs.declared.Refusal.the-variants.{TooLong as tooLong, NoEnd as noEnd, LongLine as longLine, TooManyItems as tooManyItems, UnknownCommand as unknownCommand, BadArguments as badArguments, Undeclared as undeclared, DeclaredTwice as declaredTwice, TooManyNames as tooManyNames}
@@ -20,12 +22,17 @@ use Rattle.rules.specs.Verdict.{numberOf as ruleNumber, meaning as verdictMeani
 use Rattle.state.specs.declared.Control.{Control}
 use Rattle.state.specs.declared.Offer.{Offer}
 use Rattle.state.specs.State.{fresh}
-use Rattle.safety.specs.Safety.{answersFrom, allAllowed}
-use Rattle.safety.specs.Outcome.{Outcome, refusal, judged, checkedOutcome, outcome}
+use Rattle.state.specs.declared.State.{State}
+use Rattle.machine.specs.declared.Steps.{Steps}
+use Rattle.machine.specs.declared.Ran.{Ran}
+use Rattle.state.specs.Meaning.{runOf, Neat}
+use Rattle.machine.specs.Course.{runFrom, allTold, stepsOf, courseOf, allRefused, ExactRun}
+use Rattle.safety.specs.Safety.{allAllowed}
+use Rattle.safety.specs.Outcome.{refusal, judged, checkedOutcome, outcome, Fixed}
 use Rattle.safety.proofs.Safe.{answers-allowed}
 
 module _ (size : ℕ) (t : Script) (ps : List (Control × Offer)) (v : Judgement) (p : verdictMeaning v ≡ verdict size t) where
-  pub rules-yes : v ≡ rule.Accepted → checkedOutcome size t ps ≡ record { number = 0; line = 0; answers = answersFrom size t fresh ps }
+  pub rules-yes : v ≡ rule.Accepted → checkedOutcome size t ps ≡ record { number = 0; line = 0; course = runFrom size t fresh ps }
   unfolding checkedOutcome
   rules-yes e = rw (← p, e)
 
@@ -56,18 +63,31 @@ module _ (text : List ℕ) (ps : List (Control × Offer)) (l : Loaded) (p : load
 
 -- ---- the promise
 
-checked-allowed : (size : ℕ) (t : Script) (ps : List (Control × Offer)) → allAllowed ((checkedOutcome size t ps) .answers) ≡ true
+checked-allowed : (size : ℕ) (t : Script) (ps : List (Control × Offer)) → allAllowed ((checkedOutcome size t ps) .course .answers) ≡ true
 unfolding checkedOutcome
 checked-allowed size t ps = go (verdict size t) refl
   where
-    go : (v : Verdict) → verdict size t ≡ v → allAllowed ((judged v (answersFrom size t fresh ps)) .answers) ≡ true
+    go : (v : Verdict) → verdict size t ≡ v → allAllowed ((judged v (runFrom size t fresh ps)) .course .answers) ≡ true
     go accepted e = answers-allowed size t e ps
     go (refused n k) e = refl
 
-pub promised : (text : List ℕ) (ps : List (Control × Offer)) → allAllowed ((outcome text ps) .answers) ≡ true
+pub promised : (text : List ℕ) (ps : List (Control × Offer)) → allAllowed ((outcome text ps) .course .answers) ≡ true
 unfolding outcome
 promised text ps = go (eqb ((loaded text) .number) 0)
   where
-    go : (b : Bool) → allAllowed ((cond b (checkedOutcome (length text) ((loaded text) .table) ps) (refusal ((loaded text) .number) ((loaded text) .line))) .answers) ≡ true
+    go : (b : Bool) → allAllowed ((cond b (checkedOutcome (length text) ((loaded text) .table) ps) (refusal ((loaded text) .number) ((loaded text) .line))) .course .answers) ≡ true
     go true = checked-allowed (length text) ((loaded text) .table) ps
     go false = refl
+
+-- ---- the run
+
+pub from-fresh : {size : ℕ} {t : Script} {m : State} (s : Steps) {r : Ran} → runOf m ≡ fresh → ExactRun size t m (take (s .count) (stepsOf s)) r → courseOf r ≡ runFrom size t fresh (stepsOf s)
+from-fresh s f e = e .says ∙ rw (f, take-take (s .count) (s .count) (allTold (s .at)) (omega arith))
+
+-- a run from a neat state leaves a neat one, refused or not
+pub fixed : {size : ℕ} {t : Script} {m : State} {ps : List (Control × Offer)} {r : Ran} → Neat m → ExactRun size t m ps r → Fixed r
+fixed {size} {t} {m} {ps} {r} n e = record { neat = go (allRefused ((courseOf r) .answers)) refl; blank = e .blank }
+  where
+    go : (b : Bool) → allRefused ((courseOf r) .answers) ≡ b → Neat (r .state)
+    go true q = subst Neat (sym (e .unchanged q)) n
+    go false q = e .neat q

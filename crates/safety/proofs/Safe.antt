@@ -14,7 +14,8 @@ use Rattle.state.specs.declared.Control.{Control}
 use Rattle.state.specs.declared.Offer.{Offer}
 use Rattle.state.specs.State.{Run, fresh}
 use Rattle.machine.specs.Machine.{step}
-use Rattle.safety.specs.Safety.{Promises, Safe, SafeText, answersFrom, allAllowed}
+use Rattle.machine.specs.Course.{runFrom}
+use Rattle.safety.specs.Safety.{Promises, Safe, SafeText, allAllowed}
 use Rattle.safety.proofs.Laws.{and-l, and-r, and-t}
 use Rattle.safety.proofs.Walk.{Accepted}
 use Rattle.safety.proofs.Stands.{Good}
@@ -58,12 +59,12 @@ module _ (size : ℕ) (t : Script) (ok : verdict size t ≡ accepted) where
   pub safe : Safe size t
   safe ps = runs-kept ps fresh (fresh-good accepts)
 
-  promised-answers : (ps : List (Control × Offer)) (m : Run) → Promises size t m ps → allAllowed (answersFrom size t m ps) ≡ true
-  unfolding answersFrom
+  promised-answers : (ps : List (Control × Offer)) (m : Run) → Promises size t m ps → allAllowed ((runFrom size t m ps) .answers) ≡ true
+  unfolding runFrom
   promised-answers [] m h = refl
   promised-answers (p ∷ ps) m h = and-t (h .0 .answer) (promised-answers ps ((step size t m (p .0) (p .1)) .next) (h .1))
 
-  pub answers-allowed : (ps : List (Control × Offer)) → allAllowed (answersFrom size t fresh ps) ≡ true
+  pub answers-allowed : (ps : List (Control × Offer)) → allAllowed ((runFrom size t fresh ps) .answers) ≡ true
   answers-allowed ps = promised-answers ps fresh (safe ps)
 
 -- and of any accepted text

@@ -1,27 +1,24 @@
 -- No second answer fits: two answers of `run` that both keep its contract are equal. Assumes nothing.
-use Prim.Native.Nat.{ℕ, _-_}
+use Prim.Native.Nat.{ℕ}
 use mathlib.Core.Path.{_≡_, refl, sym, ap, _∙_}
 use mathlib.Core.Bool.{true, cond}
-use mathlib.Core.List.{List, [], _∷_, _++_}
-use native.Mathlib.Omega.{arith}
+use mathlib.Core.List.{List}
 use lib.Dec.{eqb, ltb}
-use lib.ListN.{length, take, replicate, take-append-drop}
-use lib.Seq.{length-take-le}
 use Rattle.argument.specs.declared.Refusal.{Refusal}
 use Rattle.argument.specs.declared.Refusal.the-variants.{TooLong, NoEnd, LongLine, TooManyItems, UnknownCommand, BadArguments, Undeclared, DeclaredTwice, TooManyNames}
 use Rattle.argument.specs.Refusal.{numberOf as formNumber}
 use Rattle.rules.specs.declared.Rule.{Rule}
 use Rattle.rules.specs.declared.Rule.the-variants.{Kinds, Unwritten, Mark, Ninth, Package, Tag, SameName, Nested, Shape}
-use Rattle.state.specs.State.{Answer, running}
-use Rattle.state.proofs.Tight.{answerBack, answer-back}
-use Rattle.safety.specs.declared.Said.{Said}
+use Rattle.machine.specs.declared.Steps.{Steps}
+use Rattle.machine.specs.declared.Ran.{Ran}
+use Rattle.machine.specs.Course.{Course, stepsOf, courseOf}
+use Rattle.state.proofs.Tight.{same-state}
+use Rattle.machine.proofs.Tight.{SizedRun, same-ran}
 use Rattle.safety.specs.declared.Judged.{Judged}
 use Rattle.safety.specs.declared.Judged.the-variants as judged
-use Rattle.safety.specs.declared.Ran.{Ran}
-use Rattle.safety.specs.declared.Steps.{Steps}
+use Rattle.safety.specs.declared.Checked.{Checked}
 use Rattle.safety.specs.Safety.{allAllowed}
-use Rattle.safety.specs.Outcome.{Outcome, outcome, allSaid, answersOf, Blank, numberOf, lineOf, meaning, stepsOf}
-use Rattle.safety.proofs.Taken.{said-length}
+use Rattle.safety.specs.Outcome.{Outcome, outcome, Fixed, numberOf, lineOf, meaning}
 
 -- ---- from the numbers back to the answer
 
@@ -72,32 +69,25 @@ judged-back (judged.Rules SameName k) = refl
 judged-back (judged.Rules Nested k) = refl
 judged-back (judged.Rules Shape k) = refl
 
-saidOf : List Answer → List Said
-saidOf [] = []
-saidOf (a ∷ l) = record { answer = answerBack a } ∷ saidOf l
-
-said-back : (ss : List Said) → saidOf (allSaid ss) ≡ ss
-unfolding saidOf
-said-back [] = refl
-said-back (s ∷ ss) = rw (answer-back (s .answer), said-back ss)
-
 -- ---- the whole answer
 
-ranOf : Outcome → Ran
-ranOf o = record {
-  judged = judgedOf (o .number) (o .line);
-  answers = record { at = saidOf (o .answers ++ replicate (64 - length (o .answers)) running); count = length (o .answers) };
-}
+checkedFrom : Judged → Ran → Checked
+checkedFrom j r = record { judged = j; ran = r }
 
-ran-back : (x : Ran) → length (x .answers .at) ≡ 64 → Blank (x .answers) → ranOf (meaning x) ≡ x
-unfolding ranOf
-ran-back x l b =
-    let n : length (take (x .answers .count) (allSaid (x .answers .at))) ≡ x .answers .count = length-take-le (x .answers .count) (allSaid (x .answers .at)) (omega (arith, said-length (x .answers .at), b .few)) in
-    rw (n, ← b .rest, take-append-drop, said-back (x .answers .at), judged-back (x .judged))
+checked-from : (x : Checked) → checkedFrom (x .judged) (x .ran) ≡ x
+unfolding checkedFrom
+checked-from x = refl
 
--- a row of 64 is as long as its type says
-pub only-run : (text : List ℕ) (steps : Steps) (x y : Ran) → length (x .answers .at) ≡ 64 → length (y .answers .at) ≡ 64
-    → (meaning x ≡ outcome text (stepsOf steps)) × (allAllowed (answersOf (x .answers)) ≡ true) × Blank (x .answers)
-    → (meaning y ≡ outcome text (stepsOf steps)) × (allAllowed (answersOf (y .answers)) ≡ true) × Blank (y .answers)
+-- an array of the code has its length (`SizedRun`)
+pub only-run : (text : List ℕ) (steps : Steps) (x y : Checked) → SizedRun (x .ran) → SizedRun (y .ran)
+    → (meaning x ≡ outcome text (stepsOf steps)) × (allAllowed (courseOf (x .ran) .answers) ≡ true) × Fixed (x .ran)
+    → (meaning y ≡ outcome text (stepsOf steps)) × (allAllowed (courseOf (y .ran) .answers) ≡ true) × Fixed (y .ran)
     → x ≡ y
-only-run text steps x y l k p q = sym (ran-back x l (p .2)) ∙ ap ranOf (p .0 ∙ sym (q .0)) ∙ ran-back y k (q .2)
+only-run text steps x y l k p q =
+    let same : meaning x ≡ meaning y = p .0 ∙ sym (q .0) in
+    let j : x .judged ≡ y .judged = sym (judged-back (x .judged)) ∙ ap (λ (o : Outcome). judgedOf (o .number) (o .line)) same ∙ judged-back (y .judged) in
+    let c : courseOf (x .ran) ≡ courseOf (y .ran) = ap (λ (o : Outcome). o .course) same in
+    let m : x .ran .state ≡ y .ran .state = same-state (x .ran .state) (y .ran .state) (l .boxes) (k .boxes) (ap (λ (z : Course). z .last) c) (p .2 .neat) (q .2 .neat) in
+    let r : x .ran ≡ y .ran = same-ran (x .ran) (y .ran) l k c (p .2 .blank) (q .2 .blank) m in
+    let w : checkedFrom (x .judged) (x .ran) ≡ checkedFrom (y .judged) (y .ran) = cc in
+    sym (checked-from x) ∙ w ∙ checked-from y

@@ -21,6 +21,7 @@ use Rattle.state.specs.declared.Offer.{Offer}
 use Rattle.state.specs.declared.Offer.the-variants.{Nothing as nothing, Float as oneFloat, Point as onePoint, Done as done}
 use Rattle.state.specs.State.{Status, live, finishedRun, stoppedRun, faultRun, code0028, code0010, Run, Answer, running, waiting, finished, stopped, fault, refuse, Step, fresh}
 use Rattle.machine.specs.Machine.{anyOpen, told, step}
+use Rattle.machine.specs.Course.{runFrom}
 
 -- ---- an offer of the wrong sort
 
@@ -128,12 +129,7 @@ Safe size t = (ps : List (Control × Offer)) → Promises size t fresh ps
 abbrev pub SafeText : List ℕ → Type 0
 SafeText text = (loaded text) .number ≡ 0 → verdict (length text) ((loaded text) .table) ≡ accepted → Safe (length text) ((loaded text) .table)
 
--- the answers of a run, one for each control and offer
-unfoldable pub answersFrom : ℕ → Script → Run → List (Control × Offer) → List Answer
-answersFrom size t m [] = []
-answersFrom size t m (p ∷ ps) = let s = step size t m (p .0) (p .1) in s .answer ∷ answersFrom size t (s .next) ps
-
--- what demand 3 says of them
+-- what demand 3 says of the answers of a run
 abbrev pub allAllowed : List Answer → Bool
 allAllowed [] = true
 allAllowed (a ∷ l) = allowed a && allAllowed l
@@ -144,4 +140,4 @@ allAllowed (a ∷ l) = allowed a && allAllowed l
 pub record Reaches (text : List ℕ) (rule place before : ℕ) (ps : List (Control × Offer)) (number : ℕ) : Type 0 where
   pub formed : (loaded text) .number ≡ 0
   pub breaks : verdict (length text) ((loaded text) .table) ≡ refused rule place
-  pub comes : answersFrom (length text) ((loaded text) .table) fresh ps ≡ replicate before running ++ (fault number ∷ [])
+  pub comes : (runFrom (length text) ((loaded text) .table) fresh ps) .answers ≡ replicate before running ++ (fault number ∷ [])

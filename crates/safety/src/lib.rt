@@ -1,39 +1,19 @@
 // Demand 3 for a caller: a script's text is loaded, checked and run from fresh, and the answers are never 30 and never a fault.
 use argument::Refusal;
+use machine::Ran;
+use machine::Said;
+use machine::Steps;
 use rules::Rule;
 use state::Answer;
-use state::Control;
-use state::Offer;
+use state::Thing;
+use state::What;
 use table::Script;
 ghost use mathlib.Core.Path.{_≡_};
 ghost use mathlib.Core.Bool.{true};
-ghost use mathlib.Core.List.{[]};
 ghost use lib.ListN.{length};
-ghost use Rattle.state.specs.State.{fresh};
-ghost use Rattle.safety.specs.Safety.{answersFrom, allAllowed};
-ghost use Rattle.safety.specs.Outcome.{Outcome, refusal, checkedOutcome, outcome, stepsOf, answersOf, atMost, Blank, numberOf, lineOf, meaning};
-
-const MOST_STEPS: usize = 64;
-
-// What one step takes.
-pub struct Told {
-    pub control: Control,
-    pub offer: Offer,
-}
-
-pub struct Steps {
-    pub at: [Told; 64],
-    pub count: usize,
-}
-
-pub struct Said {
-    pub answer: Answer,
-}
-
-pub struct Answers {
-    pub at: [Said; 64],
-    pub count: usize,
-}
+ghost use Rattle.machine.specs.Course.{stepsOf, courseOf};
+ghost use Rattle.safety.specs.Safety.{allAllowed};
+ghost use Rattle.safety.specs.Outcome.{none, refusal, checkedOutcome, outcome, Fixed, numberOf, lineOf, meaning};
 
 // By the checker; or refused by form or by a rule, at a line.
 pub enum Judged {
@@ -42,65 +22,53 @@ pub enum Judged {
     Rules(Rule, usize),
 }
 
-// The answers are none where the text is refused.
-pub struct Ran {
+// No step is taken where the text is refused.
+pub struct Checked {
     pub judged: Judged,
-    pub answers: Answers,
+    pub ran: Ran,
 }
 
-fn at_most(n: usize) -> usize
-    ensures { λ r. ⌜ r ≡ atMost n ⌝ }
+// A run from fresh of which no step is taken.
+fn not_run() -> Ran
+    ensures { λ r. ⌜ (courseOf r ≡ none) × Fixed r ⌝ }
 {
-    if n < MOST_STEPS { n } else { MOST_STEPS }
-}
-
-// The answers of a run from fresh.
-fn along(text: &[u8], script: Script, steps: Steps) -> Answers
-    ensures { λ r. ⌜ (answersOf r ≡ answersFrom (length (now (text .entry))) script fresh (stepsOf steps)) × Blank r ⌝ }
-{
-    let mut said = [Said {
+    let answers = [Said {
         answer: Answer::Running,
+        things: 0,
     }; 64];
-    let n = at_most(steps.count);
-    let mut state = state::fresh();
-    let mut i = 0;
-    while i < n {
-        let told = steps.at[i];
-        let control = told.control;
-        let offer = told.offer;
-        let stepped = machine::step(text, script, state, control, offer);
-        let next = stepped.state;
-        state = next;
-        let answer = stepped.answer;
-        said[i] = Said { answer: answer };
-        i += 1;
-    }
-    Answers { at: said, count: n }
-}
-
-fn refused(judged: Judged) -> Ran
-    ensures { λ r. ⌜ (meaning r ≡ refusal (numberOf judged) (lineOf judged)) × Blank (r .answers) ⌝ }
-{
-    let said = [Said {
-        answer: Answer::Running,
-    }; 64];
-    let answers = Answers { at: said, count: 0 };
+    let things = [Thing {
+        what: What::Nothing,
+    }; 512];
+    let state = state::fresh();
     Ran {
-        judged: judged,
+        state: state,
         answers: answers,
+        count: 0,
+        things: things,
+        handed: 0,
     }
 }
 
-fn check_and_run(text: &[u8], script: Script, steps: Steps) -> Ran
-    ensures { λ r. ⌜ (meaning r ≡ checkedOutcome (length (now (text .entry))) script (stepsOf steps)) × Blank (r .answers) ⌝ }
+fn refused(judged: Judged) -> Checked
+    ensures { λ r. ⌜ (meaning r ≡ refusal (numberOf judged) (lineOf judged)) × Fixed (r .ran) ⌝ }
+{
+    let ran = not_run();
+    Checked {
+        judged: judged,
+        ran: ran,
+    }
+}
+
+fn check_and_run(text: &[u8], script: Script, steps: Steps) -> Checked
+    ensures { λ r. ⌜ (meaning r ≡ checkedOutcome (length (now (text .entry))) script (stepsOf steps)) × Fixed (r .ran) ⌝ }
 {
     let verdict = rules::check(text, script);
     match verdict {
         rules::Verdict::Accepted => {
-            let answers = along(text, script, steps);
-            Ran {
+            let ran = machine::run(text, script, state::fresh(), steps, steps.count);
+            Checked {
                 judged: Judged::Accepted,
-                answers: answers,
+                ran: ran,
             }
         }
         rules::Verdict::Refused(rule, line) => refused(Judged::Rules(rule, line)),
@@ -108,8 +76,8 @@ fn check_and_run(text: &[u8], script: Script, steps: Steps) -> Ran
 }
 
 // Loads, checks and runs up to 64 steps from fresh.
-pub fn run(text: &[u8], steps: Steps) -> Ran
-    ensures { λ r. ⌜ (meaning r ≡ outcome (now (text .entry)) (stepsOf steps)) × (allAllowed (answersOf (r .answers)) ≡ true) × Blank (r .answers) ⌝ }
+pub fn run(text: &[u8], steps: Steps) -> Checked
+    ensures { λ r. ⌜ (meaning r ≡ outcome (now (text .entry)) (stepsOf steps)) × (allAllowed (courseOf (r .ran) .answers) ≡ true) × Fixed (r .ran) ⌝ }
 {
     let loaded = script::load(text);
     let answer = loaded.answer;

@@ -1,10 +1,10 @@
 //! One case, answered by both programs: the answers and all lent memory must be the same.
 
 use crate::handed::reply_of;
-use crate::numbers::MOST_STEPS;
 use crate::proved::{self, BEFORE};
 use second::cases::Case;
-use second::machine::Answer;
+use second::machine::{Answer, Ran, State, MOST_STEPS};
+use second::table::Table;
 use second::program::{Program, Second, Stepped, Steps};
 use second::Refusal;
 
@@ -96,12 +96,17 @@ pub fn alike(case: &Case, proved: &mut impl Program, hits: &mut Hits) -> bool {
             let run = proved.run(script, steps);
             let safe = proved.check(script).is_err() || run.as_ref().is_ok_and(|run| never_faults(run));
             let read = run.as_ref().map_or(true, |run| read_as_reply(script, run, proved));
-            safe && read && same_runs(&answer, &run) && kept_promise(script, steps, &answer)
+            let within = second.load(script).map_or(true, |table| {
+                let by_step = run.as_ref().expect("a script in form runs");
+                same_within(script.len(), &table, &State::default(), steps, by_step, proved, hits)
+            });
+            safe && read && same_runs(&answer, &run) && kept_promise(script, steps, &answer) && within
         }
         Case::RunTable { length, table, state, steps } => {
             let answer = second.run_table(*length, table, state, steps);
             hits.run(&answer);
-            same_runs(&Ok(answer), &Ok(proved.run_table(*length, table, state, steps)))
+            let run = proved.run_table(*length, table, state, steps);
+            same_within(*length, table, state, steps, &run, proved, hits) && same_runs(&Ok(answer), &Ok(run))
         }
         Case::Package { bytes } => {
             let answer = second.package(bytes);
@@ -126,17 +131,61 @@ fn never_faults(run: &[Stepped]) -> bool {
     run.iter().all(|step| !matches!(step.answer, Answer::Fault(_) | Answer::Refused(30)))
 }
 
-/// Whether the safe run refuses what the checker refuses, and otherwise answers as the run does, never with a fault.
+/// Whether the safe run refuses what the checker refuses, and otherwise comes to what the run does, never with a fault.
 fn kept_promise(script: &[u8], steps: &Steps, run: &Result<Vec<Stepped>, Refusal>) -> bool {
-    let promised = |run: &Vec<Stepped>| {
-        let first = &run[..run.len().min(MOST_STEPS)];
-        never_faults(first).then(|| first.iter().map(|step| step.answer).collect::<Vec<_>>())
-    };
     match (Second.check(script), run) {
         (Err(refusal), _) => proved::safe_run(script, steps) == Err(refusal),
-        (Ok(()), Ok(run)) => proved::safe_run(script, steps).ok() == promised(run),
+        (Ok(()), Ok(run)) => {
+            let expected = first_of(&State::default(), run, MOST_STEPS);
+            never_faults(run) && proved::safe_run(script, steps).is_ok_and(|ran| same_ran(&ran, &expected))
+        }
         (Ok(()), Err(_)) => false,
     }
+}
+
+/// What the first steps of a run came to, as many as the budget allows and 64 at most.
+fn first_of(state: &State, run: &[Stepped], budget: usize) -> Ran {
+    let run = &run[..run.len().min(budget).min(MOST_STEPS)];
+    Ran {
+        state: run.last().map_or(state, |step| &step.state).clone(),
+        answers: run.iter().map(|step| (step.answer, step.things.len())).collect(),
+        things: run.iter().flat_map(|step| step.things.clone()).collect(),
+    }
+}
+
+/// A budget, which differs from case to case, and how it stands to the count.
+fn budget_of(length: usize, count: usize) -> (usize, &'static str) {
+    match (length + count) % 6 {
+        0 => (0, "0"),
+        1 => (1, "1"),
+        2 => (count / 2, "under the count"),
+        3 => (count, "the count"),
+        4 => (count + 1, "over the count"),
+        _ => (usize::MAX, "the most"),
+    }
+}
+
+/// Whether the steps taken at one asking come to what they come to one by one, in both programs.
+fn same_within(
+    length: usize,
+    table: &Table,
+    state: &State,
+    steps: &Steps,
+    by_step: &[Stepped],
+    proved: &mut impl Program,
+    hits: &mut Hits,
+) -> bool {
+    let (budget, what) = budget_of(length, steps.len());
+    hits.count(format!("budget {what}"));
+    if steps.len() > MOST_STEPS {
+        hits.count("over 64 steps".into());
+    }
+    let ran = proved.run_within(length, table, state, steps, budget);
+    same_ran(&ran, &first_of(state, by_step, budget)) && same_ran(&ran, &Second.run_within(length, table, state, steps, budget))
+}
+
+fn same_ran(a: &Ran, b: &Ran) -> bool {
+    a.answers == b.answers && a.things == b.things && same_state(&a.state, &b.state)
 }
 
 /// Whether what the run handed out, put together as a reply, is read with a row for each loop.
@@ -155,6 +204,10 @@ fn same_runs(a: &Result<Vec<Stepped>, Refusal>, b: &Result<Vec<Stepped>, Refusal
 }
 
 fn same_step(a: &Stepped, b: &Stepped) -> bool {
-    let both_ended = a.state.ended.is_some() && a.state.ended == b.state.ended;
-    a.answer == b.answer && a.things == b.things && (both_ended || a.state == b.state)
+    a.answer == b.answer && a.things == b.things && same_state(&a.state, &b.state)
+}
+
+fn same_state(a: &State, b: &State) -> bool {
+    let both_ended = a.ended.is_some() && a.ended == b.ended;
+    both_ended || a == b
 }

@@ -36,6 +36,7 @@ const NUMBERS: &[&str] = &[
     "01", "02", "03", "04", "05", "10", "11", "12", "13", "14", "15", "16", "17", "18", "19", "20", "21", "22", "23", "24", "25",
     "26", "30", "31", "40", "41", "50", "51", "52", "53", "54", "55", "56",
     "fault 60", "fault 61", "fault 62", "fault 63", "fault 64", "stop 0010", "stop 0028", "waiting", "finished",
+    "budget 0", "budget 1", "budget under the count", "budget the count", "budget over the count", "budget the most", "over 64 steps",
 ];
 const LEAST: u64 = 50;
 const SHOWN: usize = 3;

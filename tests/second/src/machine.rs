@@ -61,6 +61,18 @@ pub struct State {
     pub ended: Option<Answer>,
 }
 
+/// The most steps that are taken one after the other at one asking.
+pub const MOST_STEPS: usize = 64;
+
+/// What steps taken one after the other came to.
+#[derive(Clone, Debug, PartialEq)]
+pub struct Ran {
+    pub state: State,
+    /// Each step's answer, and how many things it handed out.
+    pub answers: Vec<(Answer, usize)>,
+    pub things: Vec<Thing>,
+}
+
 /// Where the marks of a table belong.
 struct Mates {
     /// Of a closing or branch mark: its opening mark.
@@ -161,6 +173,18 @@ impl<'a> Machine<'a> {
             Ok(()) => Answer::Running,
             Err(code) => end(state, Answer::Stopped(code)),
         }
+    }
+
+    /// The first steps, as many as the budget allows and 64 at most, one after the other.
+    pub fn run(&self, state: &State, steps: &[(Control, Offer)], budget: usize) -> Ran {
+        let mut ran = Ran { state: state.clone(), answers: Vec::new(), things: Vec::new() };
+        let mut things = Vec::new();
+        for &(control, offer) in steps.iter().take(budget.min(MOST_STEPS)) {
+            let answer = self.step(&mut ran.state, control, offer, &mut things);
+            ran.answers.push((answer, things.len()));
+            ran.things.append(&mut things);
+        }
+        ran
     }
 
     /// What the item at this place, or the end, wants to be offered.

@@ -1,6 +1,6 @@
 //! What a program of these rules answers, so that the second program and the proved code can stand in one place.
 
-use crate::machine::{Answer, Control, Machine, Offer, State, Thing};
+use crate::machine::{Answer, Control, Machine, Offer, Ran, State, Thing};
 use crate::package::Part;
 use crate::reply::{Reply, Row};
 use crate::table::Table;
@@ -24,6 +24,7 @@ pub trait Program {
     fn check_table(&mut self, length: usize, table: &Table) -> Result<(), Refusal>;
     fn run(&mut self, script: &[u8], steps: &Steps) -> Result<Vec<Stepped>, Refusal>;
     fn run_table(&mut self, length: usize, table: &Table, state: &State, steps: &Steps) -> Vec<Stepped>;
+    fn run_within(&mut self, length: usize, table: &Table, state: &State, steps: &Steps, budget: usize) -> Ran;
     fn package(&mut self, bytes: &[u8]) -> Result<Vec<Part>, Refusal>;
     fn reply(&mut self, bytes: &[u8], rows: &mut [Row]) -> Result<Reply, Refusal>;
     fn row(&mut self, bytes: &[u8], row: usize) -> Result<Row, Refusal>;
@@ -67,6 +68,10 @@ impl Program for Second {
             Stepped { answer, things: things.clone(), state: state.clone() }
         };
         steps.iter().map(one).collect()
+    }
+
+    fn run_within(&mut self, length: usize, table: &Table, state: &State, steps: &Steps, budget: usize) -> Ran {
+        Machine::new(table, length).run(state, steps, budget)
     }
 
     fn package(&mut self, bytes: &[u8]) -> Result<Vec<Part>, Refusal> {

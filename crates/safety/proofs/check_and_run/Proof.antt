@@ -1,16 +1,15 @@
--- `safety::check_and_run` meets its contract: what the checker says, and the answers of the run where it accepts.
+-- `safety::check_and_run` meets its contract: what the checker says, and what the run comes to where it accepts.
 use mathlib.Core.Path.{sym, ap, _∙_}
-use mathlib.Core.List.{List}
 use borrow.Author.Needs.{needs}
 use lib.ListN.{length}
-use Rattle.state.specs.State.{Answer}
-use Rattle.safety.specs.Outcome.{Outcome, stepsOf}
-use Rattle.safety.proofs.Report.{rules-yes, rules-no}
+use Rattle.machine.specs.Course.{Course, stepsOf}
+use Rattle.safety.specs.Outcome.{Outcome}
+use Rattle.safety.proofs.Report.{rules-yes, rules-no, from-fresh, fixed}
 use Rattle.safety.proofs.check_and_run.Statement.{statement}
 use Rattle.safety.proofs.check_and_run.Tie as tie
 
-abbrev ran : List Answer → Outcome
-ran l = record { number = 0; line = 0; answers = l }
+abbrev ran : Course → Outcome
+ran x = record { number = 0; line = 0; course = x }
 
 check-requires : tie.Need-check-requires
 check-requires c κs = search needs
@@ -18,8 +17,11 @@ check-requires c κs = search needs
 enum-told : tie.Need-enum-told
 enum-told c = search needs
 
-along-requires : tie.Need-along-requires
-along-requires c κs = search needs
+fresh-requires : tie.Need-fresh-requires
+fresh-requires c κs = search needs
+
+run-requires : tie.Need-run-requires
+run-requires c κs = search needs
 
 enum-known-verdict : tie.Need-enum-known-verdict
 enum-known-verdict c = search needs
@@ -29,9 +31,9 @@ refused-requires c κs = search needs
 
 returns : tie.Need-returns
 returns c =
-    let a = c .before .before .before .before .before .args in (
-      ap (λ (l : List Answer). ran l) (c .along .ensures .0) ∙ sym (rules-yes (length (a .text .now)) (a .script) (stepsOf (a .steps)) (c .before .before .before .check .result) (c .before .before .before .check .ensures) (c .before .enum-told .given .1)),
-      c .along .ensures .1,
+    let a = c .before .before .before .before .before .before .args in (
+      ap (λ (x : Course). ran x) (from-fresh (a .steps) (c .before .fresh .ensures .0) (c .run .ensures)) ∙ sym (rules-yes (length (a .text .now)) (a .script) (stepsOf (a .steps)) (c .before .before .before .before .check .result) (c .before .before .before .before .check .ensures) (c .before .before .enum-told .given .1)),
+      fixed (c .before .fresh .ensures .1) (c .run .ensures),
     )
 
 returns-2 : tie.Need-returns-2
@@ -45,4 +47,5 @@ pub check-and-run-spec : {M : Type 1} → statement M
 check-and-run-spec =
     tie.close
     (tie.spec
-    check-requires enum-told along-requires enum-known-verdict refused-requires returns returns-2)
+    check-requires enum-told fresh-requires run-requires enum-known-verdict refused-requires returns
+    returns-2)

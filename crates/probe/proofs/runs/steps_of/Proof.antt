@@ -1,7 +1,7 @@
 use Prim.Native.Nat.{_≤_, _-_}
 use borrow.Author.Needs.{needs}
-use Rattle.probe.proofs.safe.steps_of.Statement.{statement}
-use Rattle.probe.proofs.safe.steps_of.Tie as tie
+use Rattle.probe.proofs.runs.steps_of.Statement.{statement}
+use Rattle.probe.proofs.runs.steps_of.Tie as tie
 
 abbrev Inv-loop : tie.InvT-loop
 Inv-loop n at₀ i₀ at i = i ≤ 64
