@@ -1089,21 +1089,6 @@ fn at_most(n: usize, most: usize) -> usize
     if n <= most { n } else { most }
 }
 
-// The row with eight things more, from place n on.
-fn put_things(row: [Thing; 512], n: usize, things: [Thing; 8]) -> [Thing; 512]
-    requires { ⌜ n ≤ 504 ⌝ }
-    ensures { λ r. ⌜ r ≡ sets row n things ⌝ }
-{
-    let mut t = row;
-    let mut i = 0;
-    while i < THINGS {
-        let thing = things[i];
-        t[n + i] = thing;
-        i += 1;
-    }
-    t
-}
-
 // The first steps of those told, as many as the budget allows, one after the other. A step from a state in shape leaves one in shape, so that shape
 // and mates are looked at once.
 pub fn run(text: &[u8], script: Script, state: State, steps: Steps, budget: usize) -> Ran
@@ -1136,8 +1121,12 @@ pub fn run(text: &[u8], script: Script, state: State, steps: Steps, budget: usiz
             things: count,
         };
         let some = stepped.things;
-        let row = put_things(things, handed, some);
-        things = row;
+        let mut k = 0;
+        while k < THINGS {
+            let thing = some[k];
+            things[handed + k] = thing;
+            k += 1;
+        }
         handed += count;
         i += 1;
     }
