@@ -36,7 +36,6 @@ ghost use mathlib.Core.Bool.{true, false, _&&_, _||_, not, cond};
 ghost use mathlib.Core.List.{[], _∷_, _++_};
 ghost use Prim.Native.Nat.{_+_, _-_, _≤_, _<_};
 ghost use lib.Dec.{leb};
-ghost use lib.Seq.{sets};
 ghost use lib.ListN.{set, length, take, drop};
 ghost use Rattle.table.specs.Item.{isOpen, isTag, isLoop, isSweep, opensA, sortOf};
 ghost use Rattle.value.specs.Arithmetic.{calculated};
