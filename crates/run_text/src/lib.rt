@@ -1,0 +1,3 @@
+// Runs as the text of cases has them.
+pub mod runs;
+pub mod spare;

@@ -1,0 +1,73 @@
+// The frame reader and writer.
+use case_text::put::put;
+use case_text::put::put_hex;
+use case_text::put::put_hex2;
+use case_text::put::put_refusal;
+use case_text::read::at_most;
+use case_text::read::bytes_of;
+use case_text::read::hex2_of;
+use case_text::read::number_of;
+use frame::HostNumber;
+use frame::InstrumentNumber;
+use frame::ReadFrame;
+use frame::Refusal;
+use frame::WrittenFrame;
+
+// The most bytes of a line, of content and of a lent buffer.
+const MOST: usize = 4096;
+
+// What a lent buffer holds before it is lent.
+const BEFORE: u8 = 165;
+
+fn put_refused(out: &mut [u8], why: Refusal) -> usize {
+    put_refusal(out, frame::number(why) as usize, 0)
+}
+
+fn put_read(out: &mut [u8], line: &[u8], expected: InstrumentNumber) -> usize {
+    match frame::read_frame(line, expected) {
+        ReadFrame::Content(length, next) => {
+            let at = put(out, 0, b"result=0\ncontent=");
+            let at = put_hex(out, at, frame::content(line, length));
+            let at = put(out, at, b"\nnext=");
+            let at = put_hex2(out, at, next.0);
+            put(out, at, b"\n")
+        }
+        ReadFrame::Refused(why) => put_refused(out, why),
+    }
+}
+
+pub fn frame_read(case: &[u8], out: &mut [u8]) -> usize {
+    let mut line = [0u8; MOST];
+    let n = bytes_of(case, b"line=", &mut line);
+    let expected = InstrumentNumber(hex2_of(case, b"expected="));
+    put_read(out, &line[..n], expected)
+}
+
+fn put_written(out: &mut [u8], lent: &[u8], written: WrittenFrame) -> usize {
+    match written {
+        WrittenFrame::Written(length, _) => {
+            let at = put(out, 0, b"result=0\nbytes=");
+            let at = put_hex(out, at, frame::content(lent, length));
+            put(out, at, b"\n")
+        }
+        WrittenFrame::Refused(why) => put_refused(out, why),
+    }
+}
+
+fn write_lent(content: &[u8], host: HostNumber, lent: &mut [u8], out: &mut [u8]) -> usize {
+    let written = frame::write_frame(content, host, lent);
+    let at = put_written(out, lent, written);
+    let at = put(out, at, b"lent=");
+    let at = put_hex(out, at, lent);
+    put(out, at, b"\n")
+}
+
+// Behind the answer, all that the lent buffer holds.
+pub fn frame_write(case: &[u8], out: &mut [u8]) -> usize {
+    let mut content = [0u8; MOST];
+    let n = bytes_of(case, b"content=", &mut content);
+    let host = HostNumber(hex2_of(case, b"number="));
+    let mut lent = [BEFORE; MOST];
+    let room = at_most(number_of(case, b"buffer="), &lent);
+    write_lent(&content[..n], host, &mut lent[..room], out)
+}

@@ -1,0 +1,4 @@
+// The ops on what goes over the wire: frames, packages and replies.
+pub mod frames;
+pub mod packages;
+pub mod replies;
