@@ -1,7 +1,6 @@
 //! What is timed: lines, packages, replies and scripts of fixed sizes.
 
 use second::frame;
-use second::machine::{Control, Offer};
 
 /// A good framed line of every length of content.
 pub fn framed_lines() -> Vec<(Vec<u8>, u8)> {
@@ -23,8 +22,8 @@ pub fn package(parts: usize) -> Vec<u8> {
 
 /// A reply of at most so many bytes: loops in loops, with packages, to the last byte that fits.
 pub fn reply(length: usize) -> Vec<u8> {
-    const ROW: &[u8] = b"L\nM0000\nPda8000800u;ba8000800u,10,20B\nPda8000801u;ba8000801u,10,20B\nPda8000802u;ba8000802u,10,20B\n\
-        Pda8000803u;ba8000803u,10,20B\n*\nTnext\n+\n";
+    const ROW: &[u8] = b"L\nM0000\nPda8000800u;ba8000800u,10,20B\nPda8000801u;ba8000801u,10,20B\n\
+        Pda8000802u;ba8000802u,10,20B\nPda8000803u;ba8000803u,10,20B\n*\nTnext\n+\n";
     let mut reply = b"e\n".to_vec();
     while reply.len() + ROW.len() < length {
         reply.extend(ROW);
@@ -61,19 +60,18 @@ pub fn script(items: usize) -> Vec<u8> {
 
 /// A sweep that sends a package of time, potential and current for each point: eight steps a point.
 pub fn sweep() -> Vec<u8> {
-    b"var e\nvar c\nvar t\nmeas_loop_lsv e c 0 1 1m 100m\ntimer_get t\npck_start\npck_add t\npck_add e\npck_add c\npck_end\nendloop\n\n".to_vec()
+    b"var e\nvar c\nvar t\nmeas_loop_lsv e c 0 1 1m 100m\ntimer_get t\n\
+        pck_start\npck_add t\npck_add e\npck_add c\npck_end\nendloop\n\n"
+        .to_vec()
 }
 
-/// Where the sweep stands.
-pub const SWEEP: usize = 3;
+/// The letters of the steps to the sweep's first point.
+pub const TO_SWEEP: &[u8] = b"nnn";
 
-/// The steps of eight points.
-pub fn points() -> Vec<(Control, Offer)> {
-    let offers = |point: u8| {
-        let mut offers = [Offer::Nothing; 8];
-        offers[0] = Offer::Point(f64::from(point) / 1000.0, 1e-6);
-        offers[1] = Offer::Float(f64::from(point) / 100.0);
-        offers
-    };
-    (0..8).flat_map(offers).map(|offer| (Control::None, offer)).collect()
+/// The same, and a first point that is infinite: the run has ended.
+pub const TO_END: &[u8] = b"nnni";
+
+/// The letters of eight points, 64 steps.
+pub fn points() -> Vec<u8> {
+    b"pfnnnnnn".repeat(8)
 }

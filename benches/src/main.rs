@@ -1,18 +1,19 @@
 //! Speed of the proved code beside the second program: the best of several turns, both in one run.
 
 mod inputs;
+mod plain;
+mod proved;
 
+use std::fmt::Debug;
 use std::hint::black_box;
 
-use compare::proved::{self, Proved};
-use second::machine::{Answer, Machine, State, MOST_STEPS};
-use second::program::{Program, Second, Steps};
+use second::machine::MOST_STEPS;
 use second::reply::{EMPTY, ROWS};
 
 const TURNS: usize = 40;
 const LEAST: f64 = 1e6;
-/// How often one call does what is cheap beside the call itself.
-const TIMES: usize = 100;
+/// How often a script is checked that is loaded once.
+const TIMES: usize = 1_000;
 
 #[repr(C)]
 struct TimeSpec {
@@ -51,8 +52,14 @@ fn calls_for(call: &mut dyn FnMut()) -> u32 {
     calls
 }
 
-/// Both in turn, the best of each; `units` are what one call does.
-fn race<A, B>(what: &str, units: (usize, &str), mut proved: impl FnMut() -> A, mut second: impl FnMut() -> B) {
+/// Both in turn, the best of each; they answer the same, or it is not the same work. `units` are what one call does.
+fn race<A: PartialEq + Debug>(
+    what: &str,
+    units: (usize, &str),
+    mut proved: impl FnMut() -> A,
+    mut second: impl FnMut() -> A,
+) {
+    assert_eq!(proved(), second(), "{what}");
     let mut proved = || {
         black_box(proved());
     };
@@ -71,13 +78,13 @@ fn race<A, B>(what: &str, units: (usize, &str), mut proved: impl FnMut() -> A, m
 
 fn frames() {
     let bytes = [b'x'; 127];
-    race("CRC of 127 bytes", (1, "call"), || proved::crc16(black_box(&bytes)), || second::frame::crc16(black_box(&bytes)));
+    race("CRC of 127 bytes", (1, "call"), || proved::crc16(black_box(&bytes)), || plain::crc16(black_box(&bytes)));
     let lines = inputs::framed_lines();
     race(
         "reading framed lines, 0 to 127 bytes of content",
         (lines.len(), "line"),
-        || lines.iter().filter(|(line, number)| Proved.frame_read(line, *number).is_ok()).count(),
-        || lines.iter().filter(|(line, number)| Second.frame_read(line, *number).is_ok()).count(),
+        || lines.iter().filter(|(line, number)| proved::frame(line, *number)).count(),
+        || lines.iter().filter(|(line, number)| plain::frame(line, *number)).count(),
     );
 }
 
@@ -87,10 +94,8 @@ fn packages() {
         race(
             &format!("judging a package, {parts} parts"),
             (1, "package"),
-            || proved::judge_package(black_box(&package)),
-            || second::package::walk(black_box(&package), |part| {
-                black_box(part);
-            }),
+            || proved::package(black_box(&package)),
+            || plain::package(black_box(&package)),
         );
     }
 }
@@ -102,8 +107,8 @@ fn replies() {
         race(
             &format!("reading a reply, {kilobytes} KB"),
             (reply.len(), "byte"),
-            || proved::reply_answer(black_box(&reply)),
-            || second::reply::read(black_box(&reply), &mut rows),
+            || proved::reply(black_box(&reply)),
+            || plain::reply(black_box(&reply), black_box(&mut rows)),
         );
     }
 }
@@ -114,8 +119,8 @@ fn scripts() {
         race(
             &format!("loading a script, {items} items"),
             (1, "script"),
-            || proved::load_answer(black_box(&script)),
-            || second::load::load(black_box(&script)),
+            || proved::load(black_box(&script)),
+            || plain::load(black_box(&script)),
         );
     }
 }
@@ -123,53 +128,36 @@ fn scripts() {
 fn checks() {
     for items in [16, 64, 128] {
         let script = inputs::script(items);
-        let table = second::load::load(&script).expect("good form");
         race(
             &format!("checking the rules, {items} items"),
             (TIMES, "check"),
-            || proved::check_times(script.len(), &table, TIMES),
-            || (0..TIMES).filter(|_| second::rules::check(black_box(&table), script.len()).is_ok()).count(),
+            || proved::check(&script, TIMES),
+            || plain::check(&script, TIMES),
         );
     }
-}
-
-/// So many steps of the second program, told what `steps` has over and over.
-fn second_steps(machine: &Machine, state: &State, steps: &Steps, times: usize) -> usize {
-    let mut state = state.clone();
-    let mut things = Vec::new();
-    for &(control, offer) in steps.iter().cycle().take(times) {
-        black_box(machine.step(&mut state, control, offer, &mut things));
-    }
-    state.at
-}
-
-/// The same, so many at one asking.
-fn second_runs(machine: &Machine, state: &State, steps: &Steps, times: usize) -> usize {
-    (0..times).fold(state.clone(), |state, _| black_box(machine.run(&state, steps, MOST_STEPS)).state).at
 }
 
 /// Steps one by one, each judged and its mates found anew, and 64 at one asking, judged once. An ended run does the
 /// same but its items: what is left is copying and judging, and at 64 a call nearly nothing but copying.
 fn sweeps() {
     const STEPS: usize = 8_000;
-    let script = inputs::sweep();
-    let (length, points) = (script.len(), inputs::points());
-    let table = second::load::load(&script).expect("good form");
-    let machine = Machine::new(&table, length);
-    let live = State { at: inputs::SWEEP, ..State::default() };
-    let ended = State { ended: Some(Answer::Finished), ..live.clone() };
-    for (what, state) in [("sweep of 1,000 points with a package each", live), ("the same steps of a run that has ended", ended)] {
+    const CALLS: usize = STEPS / MOST_STEPS;
+    let (script, points) = (inputs::sweep(), inputs::points());
+    for (what, first) in [
+        ("sweep of 1,000 points with a package each", inputs::TO_SWEEP),
+        ("the same steps of a run that has ended", inputs::TO_END),
+    ] {
         race(
             &format!("{what}, step by step"),
             (STEPS, "step"),
-            || proved::step_times(length, &table, &state, &points, STEPS),
-            || second_steps(&machine, &state, &points, STEPS),
+            || proved::steps(&script, first, &points, STEPS),
+            || plain::steps(&script, first, &points, STEPS),
         );
         race(
             &format!("{what}, 64 steps a call"),
             (STEPS, "step"),
-            || proved::run_times(length, &table, &state, &points, STEPS / MOST_STEPS),
-            || second_runs(&machine, &state, &points, STEPS / MOST_STEPS),
+            || proved::runs(&script, first, &points, CALLS),
+            || plain::runs(&script, first, &points, CALLS),
         );
     }
 }
