@@ -1,10 +1,8 @@
 /* The C entry points, called as the bench computer's program calls them. */
+#define _DEFAULT_SOURCE
+#include "host.h"
 #include "lend.h"
 #include "satvrengi.h"
-
-#include <stdio.h>
-#include <stdlib.h>
-#include <string.h>
 
 static int passed, failed;
 
@@ -63,7 +61,8 @@ static void reply(const char *text, uint16_t result, size_t line, uint32_t code,
     }
 }
 
-static void row(const char *text, size_t number, uint16_t result, uint8_t kind, uint32_t mark, size_t parent, size_t packages)
+static void row(const char *text, size_t number, uint16_t result, uint8_t kind, uint32_t mark, size_t parent,
+                size_t packages)
 {
     size_t length = strlen(text);
     for (int at_front = 0; at_front < 2; at_front++) {

@@ -1,7 +1,6 @@
 //! What a run hands out, put together as a reply: the reply reader must find a row for each loop, empty ones too.
 
-use second::machine::{Answer, Thing};
-use second::program::Stepped;
+use second::machine::{Answer, Stepped, Thing};
 use second::reply::{Row, EMPTY};
 
 const MOST_PARTS: usize = 16;

@@ -1,55 +1,152 @@
 //! The proved code beside the second program.
 //!
-//! `compare` runs the examples of the documents, the bounds and the seeded cases against both;
 //! `compare cases [states]` writes the proved code's answers to cases from standard input;
+//! `compare examples` runs the examples of the documents and the bounds against both;
+//! `compare seeded all|emulated|some` compares the seeded cases, asked of the library and of the C entry points;
 //! `compare programs PATH ..` runs the programs `rows` and `vet` on seeded input.
 
 use std::io::Read;
+use std::process::exit;
 use std::time::Instant;
 
+use compare::called::as_from_c;
 use compare::examples;
-use compare::judge::{alike, Hits};
+use compare::judge::{asked, Hits};
 use compare::programs;
-use compare::proved::Proved;
-use second::cases::{answer, read_case, write_case, Case};
-use second::program::Second;
+use compare::proved::{fits, Answering, Program};
+use second::cases::{answer, as_asked, read_case, write_case, Case};
+use second::reply::ROWS;
 use second::seeded::{self, Seed};
 
-/// A sort of seeded cases: its name, how many, and how one is made.
-type Sort = (&'static str, u64, fn(&mut Seed) -> Case);
+/// A sort of seeded cases.
+struct Sort {
+    name: &'static str,
+    /// How many there are.
+    count: u64,
+    /// One in so many is asked where programs are emulated, as far as that takes long.
+    slow: u64,
+    make: fn(&mut Seed) -> Case,
+    /// Whether the C entry points have it too.
+    called: bool,
+}
 
 const SORTS: &[Sort] = &[
-    ("frame_read", 60_000, seeded::frame_read),
-    ("frame_write", 40_000, seeded::frame_write),
-    ("package", 50_000, seeded::package),
-    ("reply", 50_000, seeded::reply),
-    ("row", 10_000, seeded::row),
-    ("load", 100_000, seeded::load),
-    ("check", 100_000, seeded::check),
-    ("check_table", 20_000, seeded::check_table),
-    ("run", 50_000, seeded::run),
-    ("run_table", 20_000, seeded::run_table),
+    Sort { name: "frame_read", count: 60_000, slow: 1, make: seeded::frame_read, called: true },
+    Sort { name: "frame_write", count: 40_000, slow: 1, make: seeded::frame_write, called: false },
+    Sort { name: "package", count: 50_000, slow: 1, make: seeded::package, called: false },
+    Sort { name: "reply", count: 50_000, slow: 1, make: seeded::reply, called: true },
+    Sort { name: "row", count: 10_000, slow: 1, make: seeded::row, called: true },
+    Sort { name: "load", count: 100_000, slow: 1, make: seeded::load, called: false },
+    Sort { name: "check", count: 100_000, slow: 2, make: seeded::check, called: false },
+    Sort { name: "check_table", count: 20_000, slow: 1, make: seeded::check_table, called: false },
+    Sort { name: "run", count: 50_000, slow: 4, make: seeded::run, called: false },
+    Sort { name: "run_table", count: 20_000, slow: 1, make: seeded::run_table, called: false },
 ];
+
+/// How many of the seeded cases are asked.
+#[derive(Clone, Copy, PartialEq)]
+enum Extent {
+    All,
+    /// What an emulator gets through in some minutes.
+    Emulated,
+    /// One in a hundred.
+    Some,
+}
+
+impl Extent {
+    fn of(self, sort: &Sort) -> u64 {
+        match self {
+            Extent::All => sort.count,
+            Extent::Emulated => sort.count / sort.slow,
+            Extent::Some => sort.count / 100,
+        }
+    }
+}
 
 /// Every number, fault and stop that the seeded cases must meet at least `LEAST` times.
 const NUMBERS: &[&str] = &[
-    "01", "02", "03", "04", "05", "10", "11", "12", "13", "14", "15", "16", "17", "18", "19", "20", "21", "22", "23", "24", "25",
-    "26", "30", "31", "40", "41", "50", "51", "52", "53", "54", "55", "56",
-    "fault 60", "fault 61", "fault 62", "fault 63", "fault 64", "stop 0010", "stop 0028", "waiting", "finished",
-    "budget 0", "budget 1", "budget under the count", "budget the count", "budget over the count", "budget the most", "over 64 steps",
+    "01", "02", "03", "04", "05", "10", "11", "12", "13", "14", "15", "16", "17", "18", "19", "20", "21", "22", "23",
+    "24", "25", "26", "30", "31", "40", "41", "50", "51", "52", "53", "54", "55", "56", "fault 60", "fault 61",
+    "fault 62", "fault 63", "fault 64", "stop 0010", "stop 0028", "waiting", "finished", "budget 0", "budget 1",
+    "budget under the count", "budget the count", "budget over the count", "budget the most", "over 64 steps",
 ];
 const LEAST: u64 = 50;
 const SHOWN: usize = 3;
+/// How many cases a program is asked at one start, and how many programs run beside each other.
+const AT_ONCE: usize = 4000;
+const WORKERS: usize = 2;
 
 fn main() {
     let words: Vec<String> = std::env::args().skip(1).collect();
-    let failed = match words.first().map(String::as_str) {
-        Some("cases") => return answer_cases(words.iter().any(|word| word == "states")),
-        Some("programs") => words[1..].iter().map(|path| programs::run(path.as_ref())).sum(),
-        _ => named_cases() + seeded_cases(),
+    let words: Vec<&str> = words.iter().map(String::as_str).collect();
+    let failed = match words[..] {
+        ["cases"] => return answer_cases(false),
+        ["cases", "states"] => return answer_cases(true),
+        ["examples"] => named_cases(),
+        ["seeded", "all"] => seeded_cases(Extent::All),
+        ["seeded", "emulated"] => seeded_cases(Extent::Emulated),
+        ["seeded", "some"] => seeded_cases(Extent::Some),
+        ["programs", ref paths @ ..] => paths.iter().map(|path| programs::run(path.as_ref())).sum(),
+        _ => usage(),
     };
     if failed > 0 {
-        std::process::exit(1);
+        exit(1);
+    }
+}
+
+fn usage() -> usize {
+    eprintln!("usage: compare cases [states] | examples | seeded all|emulated|some | programs PATH ..");
+    exit(2);
+}
+
+/// A case that was answered otherwise than the second program expects.
+struct Difference {
+    case: Case,
+    expected: String,
+    answer: String,
+}
+
+impl Difference {
+    fn show(&self) {
+        let Difference { case, expected, answer } = self;
+        println!("{}\nsecond program:\n{expected}\nproved code:\n{answer}", write_case(case));
+    }
+}
+
+/// Cases that are asked at one start, and on which of all so far the answers differ.
+struct Batch<'a> {
+    whom: &'a dyn Answering,
+    cases: Vec<Case>,
+    different: Vec<Difference>,
+}
+
+impl<'a> Batch<'a> {
+    fn of(whom: &'a dyn Answering) -> Batch<'a> {
+        Batch { whom, cases: Vec::new(), different: Vec::new() }
+    }
+
+    fn take(&mut self, cases: Vec<Case>) {
+        self.cases.extend(cases);
+        if self.cases.len() >= AT_ONCE {
+            self.ask();
+        }
+    }
+
+    fn ask(&mut self) {
+        let cases = std::mem::take(&mut self.cases);
+        let answers = self.whom.answers(&cases);
+        for (case, answer) in cases.into_iter().zip(answers) {
+            let expected = self.whom.expected(&case);
+            if answer != expected {
+                self.different.push(Difference { case, expected, answer });
+            }
+        }
+    }
+
+    /// Asks what is left, and gives all that differ.
+    fn end(mut self) -> Vec<Difference> {
+        self.ask();
+        self.different
     }
 }
 
@@ -57,56 +154,83 @@ fn main() {
 fn answer_cases(states: bool) {
     let mut text = String::new();
     std::io::stdin().read_to_string(&mut text).expect("standard input is text");
-    for case in text.split("\n\n").filter(|case| !case.trim().is_empty()) {
-        match read_case(case) {
-            Some(case) => println!("{}", answer(&case, &mut Proved, states)),
-            None => {
-                eprintln!("not a case:\n{case}");
-                std::process::exit(2);
+    let cases = text.split("\n\n").filter(|case| !case.trim().is_empty());
+    let cases: Vec<Case> = cases.map(|case| read_case(case).unwrap_or_else(|| refuse("not a case", case))).collect();
+    let library = Program::of_library();
+    for cases in cases.chunks(AT_ONCE) {
+        if let Some(long) = cases.iter().find(|case| !fits(case)) {
+            refuse("a case of more text than can be asked", &write_case(long));
+        }
+        for (case, answer) in cases.iter().zip(library.answers(cases)) {
+            if matches!(case, Case::Reply { rows, .. } if *rows > ROWS) && answer.starts_with("result=54\n") {
+                refuse("more rows than can be lent here", &write_case(case));
             }
+            println!("{}", as_asked(&answer, states));
         }
     }
+}
+
+fn refuse(why: &str, case: &str) -> Case {
+    eprintln!("{why}:\n{case}");
+    exit(2);
 }
 
 /// Runs the cases by name; says how many failed.
 fn named_cases() -> usize {
     let examples = examples::all();
+    let library = Program::of_library();
+    let mut batch = Batch::of(&library);
     let mut failed = 0;
     for example in &examples {
-        let case = &example.case;
-        let second = answer(case, &mut Second, false);
-        let as_expected = example.expected.as_ref().is_none_or(|expected| *expected == second);
-        if as_expected && alike(case, &mut Proved, &mut Hits::default()) {
-            continue;
+        let second = as_asked(&answer(&example.case), false);
+        if example.expected.as_ref().is_some_and(|known| *known != second) {
+            failed += 1;
+            println!("{}\nexpected:\n{}", write_case(&example.case), example.expected.as_deref().unwrap_or(""));
         }
-        failed += 1;
-        show(case);
-        println!("expected:\n{}", example.expected.as_deref().unwrap_or("that both answer alike\n"));
+        batch.take(asked(&example.case, &mut Hits::default()));
     }
-    println!("cases by name: {} passed, {failed} failed", examples.len() - failed);
+    let different = batch.end();
+    different.iter().take(SHOWN).for_each(Difference::show);
+    failed += different.len();
+    println!("cases by name: {}, {failed} failed", examples.len());
     failed
 }
 
-/// A case with both answers.
-fn show(case: &Case) {
-    print!("{}\nsecond program:\n{}", write_case(case), answer(case, &mut Second, true));
-    println!("proved code:\n{}", answer(case, &mut Proved, true));
-}
-
 /// Compares the seeded cases; says how many failed.
-fn seeded_cases() -> usize {
+fn seeded_cases(extent: Extent) -> usize {
     let mut hits = Hits::default();
     let mut failed = 0;
-    for (number, (name, count, make)) in SORTS.iter().enumerate() {
-        let start = Instant::now();
-        let (different, met) = one_sort(number as u64, *count, *make);
-        println!("{name}: {count} seeded cases, {} different, {:.1} s", different.len(), start.elapsed().as_secs_f32());
-        for case in different.iter().take(SHOWN) {
-            show(case);
+    let library = Program::of_library();
+    let from_c = in_c();
+    for (number, sort) in SORTS.iter().enumerate() {
+        let seeds = Seeds { sort: number as u64, count: extent.of(sort) };
+        failed += sort.compare(&seeds, &library, asked, &mut hits);
+        for whom in from_c.iter().filter(|_| sort.called) {
+            failed += sort.compare(&seeds, &**whom, |case, _| vec![as_from_c(case)], &mut Hits::default());
         }
-        failed += different.len();
-        hits.add(&met);
     }
+    if extent == Extent::Some {
+        println!("so few cases that it is not asked how often each number was met");
+        return failed;
+    }
+    failed + seldom(&hits)
+}
+
+/// Who answers for the C entry points: a C program, and this program itself where it is linked with them.
+fn in_c() -> Vec<Box<dyn Answering>> {
+    let from_c: Box<dyn Answering> = Box::new(Program::of_c());
+    #[cfg(linked)]
+    return vec![from_c, Box::new(compare::called::Linked)];
+    #[cfg(not(linked))]
+    {
+        println!("the C entry points are asked from C alone: their archive can't be linked here");
+        vec![from_c]
+    }
+}
+
+/// How many numbers were met too seldom.
+fn seldom(hits: &Hits) -> usize {
+    let mut failed = 0;
     for what in NUMBERS {
         let met = hits.0.get(*what).copied().unwrap_or(0);
         let enough = met >= LEAST;
@@ -116,31 +240,43 @@ fn seeded_cases() -> usize {
     failed
 }
 
-/// The cases of one sort on which the programs differ, and what was met.
-fn one_sort(sort: u64, count: u64, make: fn(&mut Seed) -> Case) -> (Vec<Case>, Hits) {
-    let part = |first: u64| {
-        let mut hits = Hits::default();
-        let cases = (first..count).step_by(WORKERS).map(|number| make(&mut Seed::of(sort, number)));
-        let different = cases.filter(|case| !alike(case, &mut Proved, &mut hits)).collect::<Vec<Case>>();
-        (different, hits)
-    };
-    let mut all = (Vec::new(), Hits::default());
-    std::thread::scope(|scope| {
-        let workers: Vec<_> = (0..WORKERS as u64)
-            .map(|first| {
-                let worker = std::thread::Builder::new().stack_size(STACK);
-                worker.spawn_scoped(scope, move || part(first)).expect("a thread can be started")
-            })
-            .collect();
-        for worker in workers {
-            let (different, hits) = worker.join().expect("no worker panics");
-            all.0.extend(different);
-            all.1.add(&hits);
-        }
-    });
-    all
+/// The seeds of one sort's cases.
+struct Seeds {
+    sort: u64,
+    count: u64,
 }
 
-const WORKERS: usize = 2;
-/// Tables go by value in the proved code.
-const STACK: usize = 64 << 20;
+impl Sort {
+    /// Says on how many of the cases, and of those that follow from them, the answers differ, and shows some.
+    fn compare(&self, seeds: &Seeds, whom: &dyn Answering, follow: Follow, hits: &mut Hits) -> usize {
+        let start = Instant::now();
+        let mut different = Vec::new();
+        std::thread::scope(|scope| {
+            let part = |first| scope.spawn(move || self.part(seeds, first, whom, follow));
+            let workers: Vec<_> = (0..WORKERS as u64).map(part).collect();
+            for worker in workers {
+                let (differ, met) = worker.join().expect("no worker panics");
+                different.extend(differ);
+                hits.add(&met);
+            }
+        });
+        let seconds = start.elapsed().as_secs_f32();
+        let (name, count, whom) = (self.name, seeds.count, whom.name());
+        println!("{name}: {count} seeded cases, {} different, {seconds:.1} s ({whom})", different.len());
+        different.iter().take(SHOWN).for_each(Difference::show);
+        different.len()
+    }
+
+    /// One worker's part.
+    fn part(&self, seeds: &Seeds, first: u64, whom: &dyn Answering, follow: Follow) -> (Vec<Difference>, Hits) {
+        let mut hits = Hits::default();
+        let mut batch = Batch::of(whom);
+        for number in (first..seeds.count).step_by(WORKERS) {
+            batch.take(follow(&(self.make)(&mut Seed::of(seeds.sort, number)), &mut hits));
+        }
+        (batch.end(), hits)
+    }
+}
+
+/// The cases that are asked for one that was made.
+type Follow = fn(&Case, &mut Hits) -> Vec<Case>;

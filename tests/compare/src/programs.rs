@@ -5,15 +5,16 @@ use std::path::Path;
 use std::process::{Command, Stdio};
 
 use second::cases::{listing, Case};
-use second::program::{Program, Second};
-use second::reply::{EMPTY, ROWS};
+use second::reply::{self, EMPTY, ROWS};
+use second::rules;
 use second::seeded::{self, Seed, Wild};
 
 const RUNS: u64 = 400;
 
 /// What a program writes when it reads these bytes.
 fn output(program: &Path, input: &[u8]) -> std::io::Result<Vec<u8>> {
-    let mut child = Command::new(program).stdin(Stdio::piped()).stdout(Stdio::piped()).spawn()?;
+    let launch = std::env::var("SATVRENGI_LAUNCH").expect("tests/run says what starts a program");
+    let mut child = Command::new(launch).arg(program).stdin(Stdio::piped()).stdout(Stdio::piped()).spawn()?;
     if let Some(mut stdin) = child.stdin.take() {
         // A program may stop reading early, once it knows enough.
         let _ = stdin.write_all(input);
@@ -31,7 +32,7 @@ fn reply_input(number: u64) -> (Vec<u8>, String) {
         bytes.resize(65_534 + number as usize / 20 % 6, b'x');
     }
     let mut rows = [EMPTY; ROWS];
-    let answer = Second.reply(&bytes, &mut rows);
+    let answer = reply::read(&bytes, &mut rows);
     (bytes, listing(answer, &rows))
 }
 
@@ -39,7 +40,7 @@ fn script_input(number: u64) -> (Vec<u8>, String) {
     let seed = &mut Seed::of(101, number);
     let wild = Wild::any(seed);
     let script = seeded::script(seed, wild);
-    let verdict = match Second.check(&script) {
+    let verdict = match rules::check_text(&script) {
         Ok(()) => "result=0\n".into(),
         Err(refusal) => format!("result={}\nline={}\n", refusal.number, refusal.place),
     };

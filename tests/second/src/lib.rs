@@ -6,7 +6,6 @@ pub mod frame;
 pub mod load;
 pub mod machine;
 pub mod package;
-pub mod program;
 pub mod reply;
 pub mod rules;
 pub mod seeded;

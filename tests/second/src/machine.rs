@@ -73,6 +73,17 @@ pub struct Ran {
     pub things: Vec<Thing>,
 }
 
+/// What one step answered, handed out and left.
+#[derive(Clone, Debug, PartialEq)]
+pub struct Stepped {
+    pub answer: Answer,
+    pub things: Vec<Thing>,
+    pub state: State,
+}
+
+/// What each step is told.
+pub type Steps = [(Control, Offer)];
+
 /// Where the marks of a table belong.
 struct Mates {
     /// Of a closing or branch mark: its opening mark.
@@ -175,8 +186,19 @@ impl<'a> Machine<'a> {
         }
     }
 
+    /// One step after the other, each with what it left.
+    pub fn steps(&self, state: &State, steps: &Steps) -> Vec<Stepped> {
+        let mut state = state.clone();
+        let mut things = Vec::new();
+        let one = |&(control, offer): &(Control, Offer)| {
+            let answer = self.step(&mut state, control, offer, &mut things);
+            Stepped { answer, things: things.clone(), state: state.clone() }
+        };
+        steps.iter().map(one).collect()
+    }
+
     /// The first steps, as many as the budget allows and 64 at most, one after the other.
-    pub fn run(&self, state: &State, steps: &[(Control, Offer)], budget: usize) -> Ran {
+    pub fn run(&self, state: &State, steps: &Steps, budget: usize) -> Ran {
         let mut ran = Ran { state: state.clone(), answers: Vec::new(), things: Vec::new() };
         let mut things = Vec::new();
         for &(control, offer) in steps.iter().take(budget.min(MOST_STEPS)) {

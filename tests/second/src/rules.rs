@@ -2,7 +2,12 @@
 
 use crate::table::{kind_of, Item, Operand, Table, MOST_BOXES, MOST_NAMES};
 use crate::value::Kind;
-use crate::{refuse, Refusal};
+use crate::{load, refuse, Refusal};
+
+/// The verdict on a script: form, then the rules.
+pub fn check_text(script: &[u8]) -> Result<(), Refusal> {
+    check(&load::load(script)?, script.len())
+}
 
 pub fn check(table: &Table, length: usize) -> Result<(), Refusal> {
     if !table.in_shape(length) {
