@@ -7,4 +7,5 @@ pub mod Whole
 pub mod Walk
 pub mod Tight
 pub mod Lend
+pub mod Tabled
 pub mod Examples

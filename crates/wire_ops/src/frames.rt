@@ -16,7 +16,7 @@ use frame::WrittenFrame;
 // The most bytes of a line, of content and of a lent buffer.
 const MOST: usize = 4096;
 
-// What a lent buffer holds before it is lent.
+// What a lent buffer holds, where the case's own text is too long to be laid in it.
 const BEFORE: u8 = 165;
 
 fn put_refused(out: &mut [u8], why: Refusal) -> usize {
@@ -45,9 +45,11 @@ pub fn frame_read(case: &[u8], out: &mut [u8]) -> usize {
 
 fn put_written(out: &mut [u8], lent: &[u8], written: WrittenFrame) -> usize {
     match written {
-        WrittenFrame::Written(length, _) => {
+        WrittenFrame::Written(length, next) => {
             let at = put(out, 0, b"result=0\nbytes=");
             let at = put_hex(out, at, frame::content(lent, length));
+            let at = put(out, at, b"\nhost=");
+            let at = put_hex2(out, at, next.0);
             put(out, at, b"\n")
         }
         WrittenFrame::Refused(why) => put_refused(out, why),
@@ -62,12 +64,14 @@ fn write_lent(content: &[u8], host: HostNumber, lent: &mut [u8], out: &mut [u8])
     put(out, at, b"\n")
 }
 
-// Behind the answer, all that the lent buffer holds.
+// The case's own text stands in the buffer that is lent, so that hardly a byte is like the next. Beside the answer, the
+// number of the next frame and all that the buffer holds.
 pub fn frame_write(case: &[u8], out: &mut [u8]) -> usize {
     let mut content = [0u8; MOST];
     let n = bytes_of(case, b"content=", &mut content);
     let host = HostNumber(hex2_of(case, b"number="));
     let mut lent = [BEFORE; MOST];
+    text::put_bytes(&mut lent, 0, case);
     let room = at_most(number_of(case, b"buffer="), &lent);
     write_lent(&content[..n], host, &mut lent[..room], out)
 }

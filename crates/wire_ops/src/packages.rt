@@ -91,7 +91,11 @@ fn put_package(out: &mut [u8], read: Package) -> usize {
 fn put_judged(out: &mut [u8], at: usize, judged: Answer) -> usize {
     match judged {
         Answer::Read => put(out, at, b"judged=0\n"),
-        Answer::Refused(why, _) => put_line(out, at, b"judged=", package::number(why) as usize),
+        Answer::Refused(why, place) => {
+            let at = put(out, at, b"judged=");
+            let at = put_number(out, at, package::number(why) as usize);
+            put_line(out, at, b" ", place)
+        }
     }
 }
 

@@ -19,7 +19,9 @@ const MOST_BYTES: usize = 65537;
 
 const ROWS: usize = 1024;
 
-// What every row holds before it is lent; no reply makes such a row.
+// What every row holds before it is lent, beside the kind of a loop; no reply makes such a row.
+const LETTER: u8 = b'L';
+
 const MARK: u32 = 999;
 
 const PARENT: usize = 77;
@@ -54,6 +56,10 @@ fn lend_part(reply: &[u8], n: usize) -> Table
 fn as_before(row: Row) -> usize
     ensures { λ r. ⌜ r ≤ 1 ⌝ }
 {
+    let kind = row.kind;
+    if reply_line::letter(kind) != LETTER {
+        return 0;
+    }
     if row.mark != MARK {
         return 0;
     }

@@ -6,7 +6,8 @@ use Rattle.answers.proofs.answer_all.Statement.{statement}
 use Rattle.answers.proofs.answer_all.Tie as tie
 
 abbrev Inv-loop : tie.InvT-loop
-Inv-loop s out₀ at₀ cases₀ t9 out at cases = (at ≤ length s) × ((cases ≤ length s) × (length out ≡ length out₀))
+Inv-loop s out₀ at₀ cases₀ t9 out at cases =
+    (at ≤ length s) × ((cases ≤ length s) × (length out ≡ length out₀))
 
 abbrev μ-loop : tie.MeasureT-loop
 μ-loop s out₀ at₀ cases₀ t9 out at cases = length s - cases

@@ -5,7 +5,7 @@
 
 use std::fmt::Write;
 
-use super::{Case, ALONE, ARITHMETIC};
+use super::{write_case, Case, ALONE, ARITHMETIC};
 use crate::machine::{Answer, Machine, Ran, State, Stepped, Thing, MOST_STEPS};
 use crate::package::{self, Number, Part};
 use crate::reply::{self, Reply, Row, EMPTY, ROWS};
@@ -13,12 +13,12 @@ use crate::table::{Condition, Item, Operand, Table, MOST_BOXES};
 use crate::value::{Value, COMPARISONS};
 use crate::{frame, load, rules, Refusal};
 
-/// What every byte of a lent buffer is before it is lent, and how many bytes are lent at the most.
-const BEFORE: u8 = 165;
+/// How many bytes are lent at the most, and what they are where the case's own text is too long to be laid in them.
 const MOST_LENT: usize = 4096;
+const BEFORE: u8 = 165;
 
 /// The keys of the lines beside an answer, and that of a run's states.
-const BESIDE: [&str; 4] = ["lent=", "kept=", "judged=", "spare="];
+const BESIDE: [&str; 5] = ["host=", "lent=", "kept=", "judged=", "spare="];
 const STATE: &str = "state=";
 
 /// The answer as a caller asks for it: without the lines beside it, and with the states of a run or without.
@@ -35,9 +35,9 @@ pub fn answer(case: &Case) -> String {
             Err(refusal) => refused(refusal),
         },
         Case::FrameWrite { content, number, buffer } => {
-            let mut lent = vec![BEFORE; (*buffer).min(MOST_LENT)];
+            let mut lent = lent_before(case, *buffer);
             let said = match frame::write(content, *number, &mut lent) {
-                Ok((length, _)) => format!("result=0\nbytes={}\n", hex(&lent[..length])),
+                Ok((length, next)) => format!("result=0\nbytes={}\nhost={next:02X}\n", hex(&lent[..length])),
                 Err(refusal) => refused(refusal),
             };
             format!("{said}lent={}\n", hex(&lent))
@@ -75,7 +75,10 @@ pub fn answer(case: &Case) -> String {
         },
         Case::Package { bytes } => {
             let read = package::read(bytes);
-            let judged = read.as_ref().map_or_else(|refusal| refusal.number, |_| 0);
+            let judged = match &read {
+                Ok(_) => "0".into(),
+                Err(refusal) => format!("{} {}", refusal.number, refusal.place),
+            };
             format!("{}judged={judged}\n", read.map_or_else(refused, |parts| write_parts(&parts)))
         }
         Case::Reply { rows, bytes } => {
@@ -89,6 +92,18 @@ pub fn answer(case: &Case) -> String {
             Err(refusal) => refused_at_line(refusal),
         },
     }
+}
+
+/// What a lent buffer holds before it is lent: the case's own text, so that hardly a byte is like the next.
+fn lent_before(case: &Case, length: usize) -> Vec<u8> {
+    let mut lent = vec![BEFORE; MOST_LENT];
+    let text = write_case(case);
+    let text = text.trim_end().as_bytes();
+    if text.len() <= MOST_LENT {
+        lent[..text.len()].copy_from_slice(text);
+    }
+    lent.truncate(length);
+    lent
 }
 
 fn is_refused(answer: Answer) -> bool {

@@ -17,7 +17,8 @@ wide-requires c κs = search needs
 lifted : (c : tie.After-wide)
     → L.Word (L.seen (c .wide .result) +ℤ pos 4294967296) (rest (c .before .before .args .n) 4294967296)
 lifted c =
-    let e : c .wide .result ≡ c .before .before .args .n = c .wide .ensures ∙ toZ-ofZ (c .before .before .fits .n) in
+    let e : c .wide .result ≡ c .before .before .args .n =
+    c .wide .ensures ∙ toZ-ofZ (c .before .before .fits .n) in
     L.turned _ _ (L.back64 _ (c .wide .ok) ∙ e) (c .before .before .fits .n)
     (ap (λ (z : ℤ). ltZ z (pos 0)) (sym (toZ-ofZ (c .before .before .fits .n))) ∙ c .before .if1 .taken)
 
