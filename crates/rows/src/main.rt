@@ -1,5 +1,5 @@
-// rows: reads a reply from standard input into 1,024 rows, and writes the listing. Where input or output fails, it says so
-// on standard error and stops.
+// rows: reads a reply from standard input into 1,024 rows, and writes the listing. Where input or output fails, it says
+// so on standard error and stops.
 ghost use mathlib.Core.Path.{_≡_};
 ghost use lib.ListN.{length};
 use libc::STDERR_FILENO;

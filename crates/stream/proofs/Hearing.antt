@@ -31,13 +31,15 @@ unfolding heard
 fails (negsuc _) _ _ = refl
 fails (pos n) _ e = not-true (sym (le-ltb n 0 (omega arith)) ∙ e)
 
-pub ends : (z : ℤ) (size : ℕ) → ltZ z (pos 0) ≡ false → natAbs z ≡ 0 → Heard.Over (Input.Bytes size) ≡ heard z size
+pub ends : (z : ℤ) (size : ℕ)
+    → ltZ z (pos 0) ≡ false → natAbs z ≡ 0 → Heard.Over (Input.Bytes size) ≡ heard z size
 unfolding heard
 ends (negsuc _) _ e _ = not-false e
 ends (pos zero) _ _ _ = refl
 ends (pos (suc n)) _ _ e = absurd (omega (arith, e))
 
-pub goes-on : (z : ℤ) (size : ℕ) → ltZ z (pos 0) ≡ false → (natAbs z ≡ 0 → ⊥) → Heard.More (natAbs z) ≡ heard z size
+pub goes-on : (z : ℤ) (size : ℕ)
+    → ltZ z (pos 0) ≡ false → (natAbs z ≡ 0 → ⊥) → Heard.More (natAbs z) ≡ heard z size
 unfolding heard
 goes-on (negsuc _) _ e _ = not-false e
 goes-on (pos zero) _ _ e = absurd (e refl)
@@ -56,7 +58,8 @@ come (Heard.More n) = n
 come (Heard.Over _) = 0
 
 -- What is heard to have come is something, and no more than there was room for.
-pub fitting : (z : ℤ) (size room n : ℕ) → Moved room z → Heard.More n ≡ heard z size → (0 < n) × (n ≤ room)
+pub fitting : (z : ℤ) (size room n : ℕ)
+    → Moved room z → Heard.More n ≡ heard z size → (0 < n) × (n ≤ room)
 unfolding heard moves come
 fitting (negsuc _) _ _ _ _ e = not-false (ap moves e)
 fitting (pos zero) _ _ _ _ e = not-false (ap moves e)

@@ -1,5 +1,5 @@
-// vet: judges a script from standard input. It writes `result=0`, or `result=` and `line=` with the refusal's number and
-// line. Where input or output fails, it says so on standard error and stops.
+// vet: judges a script from standard input. It writes `result=0`, or `result=` and `line=` with the refusal's number
+// and line. Where input or output fails, it says so on standard error and stops.
 ghost use mathlib.Core.Path.{_≡_};
 ghost use lib.ListN.{length};
 ghost use Rattle.rules.specs.Verdict.{meaning};
