@@ -85,7 +85,7 @@ fn vetted(draft: Draft) -> u8 {
 fn content(size: usize) -> u8 {
     let bytes = [b'x'; 128];
     let mut buf = [0u8; 160];
-    let written = frame::write_frame(front(&bytes, size), HostNumber(0), &mut buf);
+    let written = frame::write_frame(front(&bytes, size), HostNumber::first(), &mut buf);
     match written {
         WrittenFrame::Written(_, _) => 0,
         WrittenFrame::Refused(refusal) => frame::number(refusal),

@@ -18,9 +18,9 @@ pub struct SatvFrame {
 pub extern "C" fn satv_frame_read(line: &[u8], expected: u8) -> SatvFrame
     ensures { λ r. ⌜ r ≡ frameNumbers expected (read (now (line .entry)) expected) ⌝ }
 {
-    match frame::read_frame(line, InstrumentNumber(expected)) {
+    match frame::read_frame(line, InstrumentNumber::from_byte(expected)) {
         ReadFrame::Content(length, number) => {
-            let next = number.0;
+            let next = number.byte();
             SatvFrame {
                 result: GOOD,
                 next,

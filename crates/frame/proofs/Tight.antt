@@ -43,7 +43,27 @@ unfolding written-of meaningWritten
 written-back (Write.Written k n) = refl
 written-back (Write.Refused r) = ap Write.Refused (named-back r)
 
--- ---- the public functions
+-- ---- the two counters: a number is its byte
+
+pub only-host-number-first : (x y : HostNumber) → x .0 ≡ 0 → y .0 ≡ 0 → x ≡ y
+only-host-number-first x y h k = λ i. record { 0 = (h ∙ sym k) i }
+
+pub only-host-number-from-byte : (byte : ℕ) (x y : HostNumber) → x .0 ≡ byte → y .0 ≡ byte → x ≡ y
+only-host-number-from-byte byte x y h k = λ i. record { 0 = (h ∙ sym k) i }
+
+pub only-host-number-byte : (number : HostNumber) (x y : ℕ) → x ≡ number .0 → y ≡ number .0 → x ≡ y
+only-host-number-byte number x y h k = h ∙ sym k
+
+pub only-instrument-number-first : (x y : InstrumentNumber) → x .0 ≡ 0 → y .0 ≡ 0 → x ≡ y
+only-instrument-number-first x y h k = λ i. record { 0 = (h ∙ sym k) i }
+
+pub only-instrument-number-from-byte : (byte : ℕ) (x y : InstrumentNumber) → x .0 ≡ byte → y .0 ≡ byte → x ≡ y
+only-instrument-number-from-byte byte x y h k = λ i. record { 0 = (h ∙ sym k) i }
+
+pub only-instrument-number-byte : (number : InstrumentNumber) (x y : ℕ) → x ≡ number .0 → y ≡ number .0 → x ≡ y
+only-instrument-number-byte number x y h k = h ∙ sym k
+
+-- ---- the other public functions
 
 pub only-number : (r : Refusal) (x y : ℕ) → x ≡ numberOf r → y ≡ numberOf r → x ≡ y
 only-number r x y h k = h ∙ sym k

@@ -19,11 +19,15 @@ const DIGITS_AND_NEWLINE: usize = 7;
 
 const NEWLINE: u8 = b'\n';
 
-// The number of a line that the host sends. It counts by itself: no number that was received becomes one.
-pub struct HostNumber(pub u8);
+// The number with which both sides begin.
+const FIRST: u8 = 0;
 
-// The number of a line that the instrument sends.
-pub struct InstrumentNumber(pub u8);
+// The number of a line that the host sends. It counts by itself: no number that was received becomes one. Its field is
+// private, so outside this crate a number is a first one, one that the writer handed back, or one made of a byte by name.
+pub struct HostNumber(u8);
+
+// The number of a line that the instrument sends; outside this crate likewise.
+pub struct InstrumentNumber(u8);
 
 pub enum Refusal {
     BadContent,
@@ -44,6 +48,28 @@ pub enum WrittenFrame {
 }
 
 impl HostNumber {
+    // The number of the host's first line.
+    pub fn first() -> HostNumber
+        ensures { λ r. ⌜ r .0 ≡ 0 ⌝ }
+    {
+        HostNumber(FIRST)
+    }
+
+    // A number that was kept as a byte, by a program in C or in a text.
+    pub fn from_byte(byte: u8) -> HostNumber
+        ensures { λ r. ⌜ r .0 ≡ byte ⌝ }
+    {
+        HostNumber(byte)
+    }
+
+    // The byte to keep a number as.
+    pub fn byte(self) -> u8
+        ensures { λ r. ⌜ r ≡ self .0 ⌝ }
+    {
+        let sent = self.0;
+        sent
+    }
+
     fn next(self) -> HostNumber
         ensures { λ r. ⌜ r .0 ≡ next (self .0) ⌝ }
     {
@@ -52,6 +78,28 @@ impl HostNumber {
 }
 
 impl InstrumentNumber {
+    // The number of the instrument's first line.
+    pub fn first() -> InstrumentNumber
+        ensures { λ r. ⌜ r .0 ≡ 0 ⌝ }
+    {
+        InstrumentNumber(FIRST)
+    }
+
+    // A number that was kept as a byte, by a program in C or in a text.
+    pub fn from_byte(byte: u8) -> InstrumentNumber
+        ensures { λ r. ⌜ r .0 ≡ byte ⌝ }
+    {
+        InstrumentNumber(byte)
+    }
+
+    // The byte to keep a number as.
+    pub fn byte(self) -> u8
+        ensures { λ r. ⌜ r ≡ self .0 ⌝ }
+    {
+        let received = self.0;
+        received
+    }
+
     fn next(self) -> InstrumentNumber
         ensures { λ r. ⌜ r .0 ≡ next (self .0) ⌝ }
     {

@@ -20,7 +20,7 @@ pub extern "C" fn timed_crc(bytes: &[u8]) -> u16 {
 // Whether a line is good.
 #[no_mangle]
 pub extern "C" fn timed_frame(line: &[u8], expected: u8) -> bool {
-    match frame::read_frame(line, InstrumentNumber(expected)) {
+    match frame::read_frame(line, InstrumentNumber::from_byte(expected)) {
         ReadFrame::Content(_, _) => true,
         ReadFrame::Refused(_) => false,
     }

@@ -29,7 +29,7 @@ fn put_read(out: &mut [u8], line: &[u8], expected: InstrumentNumber) -> usize {
             let at = put(out, 0, b"result=0\ncontent=");
             let at = put_hex(out, at, frame::content(line, length));
             let at = put(out, at, b"\nnext=");
-            let at = put_hex2(out, at, next.0);
+            let at = put_hex2(out, at, next.byte());
             put(out, at, b"\n")
         }
         ReadFrame::Refused(why) => put_refused(out, why),
@@ -39,7 +39,7 @@ fn put_read(out: &mut [u8], line: &[u8], expected: InstrumentNumber) -> usize {
 pub fn frame_read(case: &[u8], out: &mut [u8]) -> usize {
     let mut line = [0u8; MOST];
     let n = bytes_of(case, b"line=", &mut line);
-    let expected = InstrumentNumber(hex2_of(case, b"expected="));
+    let expected = InstrumentNumber::from_byte(hex2_of(case, b"expected="));
     put_read(out, &line[..n], expected)
 }
 
@@ -49,7 +49,7 @@ fn put_written(out: &mut [u8], lent: &[u8], written: WrittenFrame) -> usize {
             let at = put(out, 0, b"result=0\nbytes=");
             let at = put_hex(out, at, frame::content(lent, length));
             let at = put(out, at, b"\nhost=");
-            let at = put_hex2(out, at, next.0);
+            let at = put_hex2(out, at, next.byte());
             put(out, at, b"\n")
         }
         WrittenFrame::Refused(why) => put_refused(out, why),
@@ -69,7 +69,7 @@ fn write_lent(content: &[u8], host: HostNumber, lent: &mut [u8], out: &mut [u8])
 pub fn frame_write(case: &[u8], out: &mut [u8]) -> usize {
     let mut content = [0u8; MOST];
     let n = bytes_of(case, b"content=", &mut content);
-    let host = HostNumber(hex2_of(case, b"number="));
+    let host = HostNumber::from_byte(hex2_of(case, b"number="));
     let mut lent = [BEFORE; MOST];
     text::put_bytes(&mut lent, 0, case);
     let room = at_most(number_of(case, b"buffer="), &lent);
