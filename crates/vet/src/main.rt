@@ -2,47 +2,12 @@
 // and line. Where input or output fails, it says so on standard error and stops.
 ghost use mathlib.Core.Path.{_≡_};
 ghost use lib.ListN.{length};
-ghost use Rattle.rules.specs.Verdict.{meaning};
-ghost use Rattle.vet.specs.Vet.{told, vetted};
 use libc::STDERR_FILENO;
 use libc::STDIN_FILENO;
 use libc::STDOUT_FILENO;
-use rules::Verdict;
-use script::Answer;
 use stream::Input;
-
-// 01's number and line, both 0 where the script is accepted.
-pub struct Told {
-    pub number: u8,
-    pub line: usize,
-}
-
-fn tell(verdict: Verdict) -> Told
-    ensures { λ r. ⌜ r ≡ told (meaning verdict) ⌝ }
-{
-    match verdict {
-        Verdict::Accepted => Told { number: 0, line: 0 },
-        Verdict::Refused(rule, line) => Told {
-            number: rules::number(rule),
-            line: line,
-        },
-    }
-}
-
-fn vet(text: &[u8]) -> Told
-    ensures { λ r. ⌜ r ≡ vetted (now (text .entry)) ⌝ }
-{
-    let loaded = script::load(text);
-    let answer = loaded.answer;
-    let table = loaded.script;
-    match answer {
-        Answer::Accepted => tell(rules::check(text, table)),
-        Answer::Refused(why, line) => Told {
-            number: argument::number(why),
-            line: line,
-        },
-    }
-}
+use vetting::Told;
+use vetting::vet;
 
 // Whether the line was written.
 fn put_line(name: &[u8], n: u64) -> bool {

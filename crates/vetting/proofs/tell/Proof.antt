@@ -1,6 +1,6 @@
 use borrow.Author.Needs.{needs}
-use Rattle.vet.proofs.tell.Statement.{statement}
-use Rattle.vet.proofs.tell.Tie as tie
+use Rattle.vetting.proofs.tell.Statement.{statement}
+use Rattle.vetting.proofs.tell.Tie as tie
 
 enum-told : tie.Need-enum-told
 enum-told c = search needs

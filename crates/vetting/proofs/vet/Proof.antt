@@ -1,7 +1,7 @@
-use Rattle.vet.proofs.Vetted.{by-rules, by-loader}
+use Rattle.vetting.proofs.Vetted.{by-rules, by-loader}
 use borrow.Author.Needs.{needs}
-use Rattle.vet.proofs.vet.Statement.{statement}
-use Rattle.vet.proofs.vet.Tie as tie
+use Rattle.vetting.proofs.vet.Statement.{statement}
+use Rattle.vetting.proofs.vet.Tie as tie
 
 load-requires : tie.Need-load-requires
 load-requires c κs = search needs

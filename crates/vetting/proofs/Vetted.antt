@@ -12,7 +12,7 @@ use Rattle.script.specs.declared.Answer.the-variants.{Accepted, Refused}
 use Rattle.script.specs.declared.Loaded.{Loaded}
 use Rattle.script.specs.Load.{meaning, loaded}
 use Rattle.rules.specs.Check.{Verdict, verdict}
-use Rattle.vet.specs.Vet.{Told, told, vetted}
+use Rattle.vetting.specs.Vet.{Told, told, vetted}
 
 positive : (q : Refusal) → eqb (numberOf q) 0 ≡ false
 unfolding numberOf

@@ -7,7 +7,7 @@ use lib.Dec.{eqb}
 use lib.ListN.{length}
 use Rattle.rules.specs.Check.{Verdict, accepted, refused, verdict}
 use Rattle.script.specs.Load.{Outcome, loaded}
-pub use Rattle.vet.specs.declared.Told.{Told}
+pub use Rattle.vetting.specs.declared.Told.{Told}
 
 abbrev pub told : Verdict → Told
 told accepted = record { number = 0; line = 0 }

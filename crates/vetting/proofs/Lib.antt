@@ -1,0 +1,2 @@
+mod Vetted
+pub mod Tight
