@@ -1,10 +1,12 @@
 -- 01, Cases by letter: A to L as one table of questions and answers.
-use mathlib.Core.Bool.{false}
+use mathlib.Core.Bool.{false, cond}
 use mathlib.Core.List.{List, [], _∷_}
 use Prim.Native.Nat.{ℕ}
 use Prim.Native.String.{String}
 use lib.IntN.{pos, negsuc}
 use lib.Ieee.{Float, fin}
+use lib.Dec.{eqb}
+use lib.ListN.{length}
 use Rattle.text.specs.Bytes.{ascii}
 use Rattle.crc.specs.Crc.{crc}
 use Rattle.value.specs.declared.Literal.{Literal}
@@ -16,6 +18,8 @@ use Rattle.package.specs.declared.Amount.the-variants.{Number as number, Intege
 use Rattle.package.specs.declared.Metadatum.the-variants.{Missing as missing}
 use Rattle.package.specs.Package.{Reading, parts, refused, packageOf}
 use Rattle.script.specs.Load.{Outcome, refusal, accepted, emptyScript, loaded}
+use Rattle.rules.specs.Check as Rules
+use Rattle.rules.specs.Check.{Verdict, verdict}
 
 -- what is asked of the bytes
 pub data Question : Type 0 where
@@ -25,14 +29,22 @@ pub data Answer : Type 0 where
   sum : ℕ → Answer
   value : Literal → Answer
   reading : Reading → Answer
-  loading : Outcome → Answer
+  script : Outcome → Verdict → Answer
+
+-- the checker on what form gave of so many bytes: form's refusal, or else what the rules say of the table
+abbrev pub checkedOf : ℕ → Outcome → Verdict
+checkedOf size o = cond (eqb (o .number) 0) (verdict size (o .table)) (Rules.refused (o .number) (o .line))
+
+-- accepted is accepted by form and by the rules
+unfoldable pub checked : List ℕ → Verdict
+checked s = checkedOf (length s) (loaded s)
 
 -- what the definitions say
 unfoldable pub answer : Question → Answer
 answer (crcOf s) = sum (crc s)
 answer (literalOf s) = value (literal s)
 answer (packageFrom s) = reading (packageOf s)
-answer (scriptFrom s) = loading (loaded s)
+answer (scriptFrom s) = script (loaded s) (checked s)
 
 pub record Case : Type 0 where
   pub letter : String
@@ -48,7 +60,8 @@ float x stop = value (Literal.Value (real x) stop)
 
 -- a package of one part without metadata
 abbrev pub onePart : ℕ → Amount → Answer
-onePart t a = reading (parts (record { kind = t; amount = a; status = missing; range = missing; noise = missing } ∷ []))
+onePart t a =
+    reading (parts (record { kind = t; amount = a; status = missing; range = missing; noise = missing } ∷ []))
 
 unfoldable pub cases : List Case
 cases =
@@ -73,6 +86,6 @@ cases =
     -- `P` alone is 40
     asks "J" (packageFrom (ascii "P")) (reading (refused 40 1)) ∷
     -- empty script, 11
-    asks "K" (scriptFrom []) (loading (refusal 11 1)) ∷
+    asks "K" (scriptFrom []) (script (refusal 11 1) (Rules.refused 11 1)) ∷
     -- only the empty line, accepted
-    asks "L" (scriptFrom (ascii "\n")) (loading (accepted emptyScript 1)) ∷ []
+    asks "L" (scriptFrom (ascii "\n")) (script (accepted emptyScript 1) Rules.accepted) ∷ []
