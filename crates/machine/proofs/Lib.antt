@@ -10,3 +10,5 @@ pub mod Tight
 pub mod Lasting
 pub mod Turns
 pub mod Few
+pub mod Resting
+pub mod Parts

@@ -5,3 +5,4 @@ pub mod Moves
 pub mod Exact
 pub mod Settle
 pub mod Course
+pub mod Parts

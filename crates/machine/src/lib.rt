@@ -1032,19 +1032,17 @@ fn state_ok(marks: Marks, n: usize, m: State) -> bool
 
 // ---- what is left over
 
-// A refusal hands back the state before the step as it is; otherwise nothing is left past the open boxes. Nothing is left past the things.
+// A step that takes no item hands back the state before it as it is, with the flags that the control set; any other leaves nothing past the open
+// boxes. Nothing is left past the things.
 fn settle(before: State, r: Stepped) -> Stepped
     requires { ⌜ Faithful (runOf before) (meaning r) ⌝ }
     ensures { λ x. ⌜ Settled before (meaning r) x ⌝ }
 {
     let a = r.answer;
-    if state::is_refused(a) {
-        return Stepped {
-            state: before,
-            answer: a,
-            things: state::no_things(),
-            count: 0,
-        };
+    let m = r.state;
+    let status = before.status;
+    if state::stays(status, a) {
+        return state::answered(state::with_flags(before, m.pending, m.skip), a);
     }
     state::tidy(r)
 }

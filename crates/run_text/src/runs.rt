@@ -49,7 +49,7 @@ const STEPS: usize = 64;
 
 const HANDED: usize = 512;
 
-// What a place past the open boxes holds before a run: it stays where a refusal keeps the whole state.
+// What a place past the open boxes holds before a run: it stays where a step takes no item.
 const LEFT_OVER: usize = 77;
 
 // ---- read

@@ -1,4 +1,4 @@
-// How many places past a count hold something: none should, but in a state that a refusal gives back as it was.
+// How many places past a count hold something: none should, but in a state that a step gives back as it was.
 use case_text::lesser;
 use machine::Ran;
 use machine::Said;

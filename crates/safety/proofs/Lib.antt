@@ -17,3 +17,4 @@ pub mod Reached
 pub mod Night
 pub mod Report
 pub mod Tight
+pub mod Onward

@@ -26,7 +26,9 @@ use Rattle.state.specs.declared.State.{State}
 use Rattle.machine.specs.declared.Steps.{Steps}
 use Rattle.machine.specs.declared.Ran.{Ran}
 use Rattle.state.specs.Meaning.{runOf, Neat}
-use Rattle.machine.specs.Course.{runFrom, allTold, stepsOf, courseOf, allRefused, ExactRun}
+use Rattle.machine.specs.Course.{runFrom, allTold, stepsOf, courseOf, allStay, restingAll, ExactRun}
+use Rattle.machine.proofs.Resting.{all-alike, alike-neat}
+use Rattle.table.specs.Shape.{itemsOf}
 use Rattle.safety.specs.Safety.{allAllowed}
 use Rattle.safety.specs.Outcome.{refusal, judged, checkedOutcome, outcome, Fixed}
 use Rattle.safety.proofs.Safe.{answers-allowed}
@@ -82,12 +84,14 @@ promised text ps = go (eqb ((loaded text) .number) 0)
 -- ---- the run
 
 pub from-fresh : {size : ℕ} {t : Script} {m : State} (s : Steps) {r : Ran} → runOf m ≡ fresh → ExactRun size t m (take (s .count) (stepsOf s)) r → courseOf r ≡ runFrom size t fresh (stepsOf s)
-from-fresh s f e = e .says ∙ rw (f, take-take (s .count) (s .count) (allTold (s .at)) (omega arith))
+from-fresh s f e = e .comes .says ∙ rw (f, take-take (s .count) (s .count) (allTold (s .at)) (omega arith))
 
--- a run from a neat state leaves a neat one, refused or not
+-- a run from a neat state leaves a neat one
 pub fixed : {size : ℕ} {t : Script} {m : State} {ps : List (Control × Offer)} {r : Ran} → Neat m → ExactRun size t m ps r → Fixed r
-fixed {size} {t} {m} {ps} {r} n e = record { neat = go (allRefused ((courseOf r) .answers)) refl; blank = e .blank }
+fixed {size} {t} {m} {ps} {r} n e = record { neat = go (allStay (runOf m .status) ((courseOf r) .answers)) refl; blank = e .blank }
   where
-    go : (b : Bool) → allRefused ((courseOf r) .answers) ≡ b → Neat (r .state)
-    go true q = subst Neat (sym (e .unchanged q)) n
-    go false q = e .neat q
+    go : (b : Bool) → allStay (runOf m .status) ((courseOf r) .answers) ≡ b → Neat (r .state)
+    go true q =
+        subst Neat (sym (e .comes .rests q))
+        (alike-neat (restingAll (itemsOf t) m ps ((courseOf r) .answers)) m (all-alike (itemsOf t) m ps ((courseOf r) .answers)) n)
+    go false q = e .comes .neat q

@@ -2,7 +2,7 @@
 use Prim.Native.Nat.{ℕ}
 use mathlib.Core.Path.{_≡_, refl}
 use mathlib.Core.Bool.{Bool, true, false, _&&_, cond}
-use mathlib.Core.List.{List, [], _∷_}
+use mathlib.Core.List.{List, [], _∷_, _++_}
 use lib.Dec.{leb}
 use lib.ListN.{length}
 use borrow.Author.Tests.{leb-true}
@@ -15,7 +15,7 @@ use Rattle.state.specs.declared.Offer.{Offer}
 use Rattle.state.specs.State.{Run, fresh}
 use Rattle.machine.specs.Machine.{step}
 use Rattle.machine.specs.Course.{runFrom}
-use Rattle.safety.specs.Safety.{Promises, Safe, SafeText, allAllowed}
+use Rattle.safety.specs.Safety.{Promises, Safe, SafeText, SafeOnward, SafeTextOnward, allAllowed}
 use Rattle.safety.proofs.Laws.{and-l, and-r, and-t}
 use Rattle.safety.proofs.Walk.{Accepted}
 use Rattle.safety.proofs.Stands.{Good}
@@ -59,7 +59,16 @@ module _ (size : ℕ) (t : Script) (ok : verdict size t ≡ accepted) where
   pub safe : Safe size t
   safe ps = runs-kept ps fresh (fresh-good accepts)
 
-  promised-answers : (ps : List (Control × Offer)) (m : Run) → Promises size t m ps → allAllowed ((runFrom size t m ps) .answers) ≡ true
+  -- the promise of a run is that of each of its parts
+  promised-onward : (ps qs : List (Control × Offer)) (m : Run) → Promises size t m (ps ++ qs) → Promises size t (runFrom size t m ps .last) qs
+  unfolding runFrom
+  promised-onward [] qs m h = h
+  promised-onward (p ∷ ps) qs m h = promised-onward ps qs (step size t m (p .0) (p .1) .next) (h .1)
+
+  pub safe-onward : SafeOnward size t
+  safe-onward ps qs = promised-onward ps qs fresh (safe (ps ++ qs))
+
+  pub promised-answers : (ps : List (Control × Offer)) (m : Run) → Promises size t m ps → allAllowed ((runFrom size t m ps) .answers) ≡ true
   unfolding runFrom
   promised-answers [] m h = refl
   promised-answers (p ∷ ps) m h = and-t (h .0 .answer) (promised-answers ps ((step size t m (p .0) (p .1)) .next) (h .1))
@@ -70,3 +79,6 @@ module _ (size : ℕ) (t : Script) (ok : verdict size t ≡ accepted) where
 -- and of any accepted text
 pub safe-text : (text : List ℕ) → SafeText text
 safe-text text formed ok = safe (length text) ((loaded text) .table) ok
+
+pub safe-text-onward : (text : List ℕ) → SafeTextOnward text
+safe-text-onward text formed ok = safe-onward (length text) ((loaded text) .table) ok

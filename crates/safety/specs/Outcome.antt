@@ -1,7 +1,8 @@
 -- What a caller is told: the refusal of a text, or what a run of it from fresh comes to, a control and an offer for each step.
 use Prim.Native.Nat.{ℕ}
-use mathlib.Core.Bool.{cond}
-use mathlib.Core.List.{List, []}
+use mathlib.Core.Path.{_≡_}
+use mathlib.Core.Bool.{true, cond}
+use mathlib.Core.List.{List, [], _++_}
 use lib.Dec.{eqb}
 use lib.ListN.{length}
 use Rattle.table.specs.declared.Script.{Script}
@@ -13,8 +14,10 @@ use Rattle.state.specs.declared.Control.{Control}
 use Rattle.state.specs.declared.Offer.{Offer}
 use Rattle.machine.specs.declared.Ran.{Ran}
 use Rattle.state.specs.State.{fresh}
-use Rattle.state.specs.Meaning.{Neat}
+use Rattle.state.specs.Meaning.{runOf, Neat}
 use Rattle.machine.specs.Course.{Course, runFrom, courseOf, BlankRun}
+use Rattle.machine.specs.Parts.{followed, Call, Called, stepsOfAll, courseOfAll}
+use Rattle.safety.specs.Safety.{Promises, allAllowed}
 use Rattle.safety.specs.declared.Judged.{Judged}
 use Rattle.safety.specs.declared.Judged.the-variants.{Accepted, Form, Rules}
 use Rattle.safety.specs.declared.Checked.{Checked}
@@ -64,3 +67,21 @@ meaning r = record { number = numberOf (r .judged); line = lineOf (r .judged); c
 pub record Fixed (r : Ran) : Type 0 where
   pub neat : Neat (r .state)
   pub blank : BlankRun r
+
+-- ---- more than 64 steps
+
+-- `run` has answered r to the steps ps of an accepted text, and `machine::run` is called as often as one likes, first from the state in r and then
+-- each time from the state that it handed back: all of it is one run from fresh, and demand 3 holds of every step
+pub record GoesOn (text : List ℕ) (ps : List (Control × Offer)) (r : Checked) (calls : List Call) : Type 0 where
+  pub whole : followed (courseOf (r .ran)) (courseOfAll (runOf (r .ran .state)) calls)
+      ≡ runFrom (length text) ((loaded text) .table) fresh (ps ++ stepsOfAll calls)
+  pub promises : Promises (length text) ((loaded text) .table) fresh (ps ++ stepsOfAll calls)
+  pub onward : Promises (length text) ((loaded text) .table) (runOf (r .ran .state)) (stepsOfAll calls)
+  pub allowed : allAllowed (courseOfAll (runOf (r .ran .state)) calls .answers) ≡ true
+
+abbrev pub OnAndOn : Type 0
+OnAndOn = (text : List ℕ) (ps : List (Control × Offer)) (r : Checked) (calls : List Call)
+    → meaning r ≡ outcome text ps
+    → numberOf (r .judged) ≡ 0
+    → Called (length text) ((loaded text) .table) (r .ran .state) calls
+    → GoesOn text ps r calls

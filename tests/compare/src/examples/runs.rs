@@ -3,7 +3,7 @@ use second::cases::{read_case, Case};
 use second::machine::{Control, Offer};
 
 pub fn all() -> Vec<Example> {
-    [printed(), items(), faults(), controls(), numbers(), states()].into_iter().flatten().collect()
+    [printed(), items(), faults(), controls(), numbers(), states(), held()].into_iter().flatten().collect()
 }
 
 /// Steps as words: `.` offers nothing, `f` a float, `p` a point, `d` done; `Z` or `Y` before it is the control.
@@ -267,5 +267,33 @@ fn states() -> Vec<Example> {
         one("0 boxes=0 abort=1 skip=0 package=0 values=-".into(), "-", "none nothing", "finished things=+"),
         one("0 boxes=0 abort=1 skip=0 package=1 values=-".into(), "-", "none nothing", "fault:64 things=-"),
         one("4 boxes=- abort=0 skip=0 package=1 values=-".into(), "-", "none nothing", "fault:64 things=-"),
+    ]
+}
+
+/// Steps that take no item hand the state back as it was, its unused places too, which only the comparison sees.
+fn held() -> Vec<Example> {
+    let one = "f3FF0000000000000";
+    let table = format!("names=2\nend=3\nitems=2\nitem=1 meas_loop_lsv v0 v1 {one} {one} {one} {one}\nitem=2 endloop");
+    let case = |op: &str, state: &str, ended: &str, steps: &[&str]| {
+        let budget = if op == "run_within" { "budget=64\n" } else { "" };
+        let told: String = steps.iter().map(|step| format!("do={step}\n")).collect();
+        let start = format!("{table}\nstate={state}\nended={ended}\nsteps={}\n{told}", steps.len());
+        let text = format!("op={op}\n{budget}length=9\n{start}");
+        read_case(&text).expect("a case")
+    };
+    let inside = "0 boxes=0 abort=0 skip=0 package=0 values=-";
+    let waits = ["Y nothing", "none float 0000000000000000", "Z nothing"];
+    let moves = ["Y nothing", "none done", "none nothing"];
+    let said = |answers: &[&str]| {
+        let lines = answers.iter().enumerate().map(|(place, answer)| format!("step={} answer={answer}\n", place + 1));
+        lines.collect::<String>()
+    };
+    vec![
+        expect(case("run_table", inside, "-", &waits), said(&["waiting things=-", "refused:31 things=-", "waiting things=-"])),
+        expect(case("run_table", inside, "-", &moves), said(&["waiting things=-", "running things=*", "finished things=-"])),
+        expect(case("run_table", inside, "stopped:0010", &waits), said(&["stopped:0010 things=-"; 3])),
+        alike(case("run_within", inside, "-", &waits)),
+        alike(case("run_within", inside, "-", &moves)),
+        alike(case("run_within", inside, "fault:60", &moves)),
     ]
 }

@@ -58,12 +58,12 @@ pub fn answer(case: &Case) -> String {
         },
         Case::RunTable { length, table, state, steps } => {
             let run = Machine::new(table, *length).steps(state, steps);
-            let untouched = run.iter().take_while(|step| is_refused(step.answer)).count();
+            let untouched = run.iter().take_while(|step| stays(state, step.answer)).count();
             format!("{}spare={}\n", write_run(&run), untouched * spare_boxes(state))
         }
         Case::RunWithin { length, table, state, steps, budget } => {
             let ran = Machine::new(table, *length).run(state, steps, *budget);
-            let untouched = ran.answers.iter().all(|(answer, _)| is_refused(*answer));
+            let untouched = ran.answers.iter().all(|(answer, _)| stays(state, *answer));
             format!("{}spare={}\n", write_ran(&ran), if untouched { spare_boxes(state) } else { 0 })
         }
         Case::RunSafe { script, steps } => match rules::check_text(script).and_then(|()| load::load(script)) {
@@ -106,12 +106,14 @@ fn lent_before(case: &Case, length: usize) -> Vec<u8> {
     lent
 }
 
-fn is_refused(answer: Answer) -> bool {
-    matches!(answer, Answer::Refused(_))
+/// Whether a step leaves the state as it was, but for the control of a wait: it is refused or waits, or the run has
+/// ended before it. As long as only such steps are taken, the state before the first says whether it has.
+fn stays(before: &State, answer: Answer) -> bool {
+    before.ended.is_some() || matches!(answer, Answer::Waiting | Answer::Refused(_))
 }
 
 /// How many places for open boxes a state leaves unused. The proved code is handed something in each of them, which
-/// stays where the whole state does, and is gone after any step that is not refused.
+/// stays where the whole state does, and is gone after any step that runs an item.
 fn spare_boxes(state: &State) -> usize {
     MOST_BOXES.saturating_sub(state.boxes.len())
 }
