@@ -1,5 +1,6 @@
 /* The answers of the C entry points to cases from standard input, each ended by an empty line: frame_read, reply (with
- * 1,024 rows, whatever it says) and row. The bytes are lent at either end of memory between forbidden pages. */
+ * 1,024 rows, whatever it says) and row. Behind each, as `numbers=`, all that the entry point gave back, in the order
+ * of its struct. The bytes are lent at either end of memory between forbidden pages. */
 #define _DEFAULT_SOURCE
 #include "host.h"
 #include "lend.h"
@@ -58,12 +59,13 @@ static void frame_read(const char *at, int at_front)
     SatvFrame frame = satv_frame_read(line, length, (uint8_t)strtoul(value(at, "expected="), NULL, 16));
     if (frame.result != 0) {
         printf("result=%d\nplace=0\n", frame.result);
-        return;
+    } else {
+        printf("result=0\ncontent=");
+        for (size_t i = 0; i < frame.length; i++)
+            printf("%02X", line[i]);
+        printf("\nnext=%02X\n", frame.next);
     }
-    printf("result=0\ncontent=");
-    for (size_t i = 0; i < frame.length; i++)
-        printf("%02X", line[i]);
-    printf("\nnext=%02X\n", frame.next);
+    printf("numbers=%d %d %lu\n", frame.result, frame.next, (unsigned long)frame.length);
 }
 
 static void put_refused(unsigned result, size_t line)
@@ -84,14 +86,16 @@ static void reply(const char *at, int at_front)
     SatvReply read = satv_reply_read(lent, length);
     if (read.result != 0) {
         put_refused(read.result, read.line);
-        return;
+    } else {
+        printf("result=0\ncode=%04X\n", (unsigned)read.code);
+        printf("used=%lu\nrows=%lu\n", (unsigned long)read.used, (unsigned long)read.rows);
+        for (size_t i = 0; i < read.rows; i++) {
+            printf("row=%lu\n", (unsigned long)i);
+            put_row(satv_reply_row(lent, length, i));
+        }
     }
-    printf("result=0\ncode=%04X\n", (unsigned)read.code);
-    printf("used=%lu\nrows=%lu\n", (unsigned long)read.used, (unsigned long)read.rows);
-    for (size_t i = 0; i < read.rows; i++) {
-        printf("row=%lu\n", (unsigned long)i);
-        put_row(satv_reply_row(lent, length, i));
-    }
+    printf("numbers=%u %lu %lu %lu %lu\n", read.result, (unsigned long)read.code, (unsigned long)read.line,
+           (unsigned long)read.used, (unsigned long)read.rows);
 }
 
 static void row(const char *at, int at_front)
@@ -101,10 +105,12 @@ static void row(const char *at, int at_front)
     SatvRow read = satv_reply_row(lent, length, strtoul(value(at, "row="), NULL, 10));
     if (read.result != 0) {
         put_refused(read.result, read.line);
-        return;
+    } else {
+        printf("result=0\n");
+        put_row(read);
     }
-    printf("result=0\n");
-    put_row(read);
+    printf("numbers=%u %u %lu %lu %lu %lu\n", read.result, read.kind, (unsigned long)read.mark,
+           (unsigned long)read.line, (unsigned long)read.parent, (unsigned long)read.packages);
 }
 
 static void answer(const char *at, int at_front)

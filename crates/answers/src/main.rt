@@ -19,11 +19,12 @@ use case_text::read::past;
 use libc::STDIN_FILENO;
 use libc::STDOUT_FILENO;
 use wire_ops::frames;
+use wire_ops::lines;
 use wire_ops::packages;
 use wire_ops::replies;
 use word::Found;
 
-const OPS: [[u8; 16]; 13] = [
+const OPS: [[u8; 16]; 15] = [
     *b"frame_read      ",
     *b"frame_write     ",
     *b"package         ",
@@ -37,6 +38,8 @@ const OPS: [[u8; 16]; 13] = [
     *b"run_table       ",
     *b"run_within      ",
     *b"run_safe        ",
+    *b"lines           ",
+    *b"content         ",
 ];
 
 const MOST_BLOCKS: usize = 1000000000;
@@ -60,6 +63,8 @@ fn answer_op(op: usize, case: &[u8], out: &mut [u8]) -> usize {
         10 => runs::run_table(case, out),
         11 => runs::run_within(case, out),
         12 => runs::run_safe(case, out),
+        13 => lines::lines(case, out),
+        14 => lines::content(case, out),
         _ => unknown(out),
     }
 }

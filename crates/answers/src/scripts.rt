@@ -1,6 +1,8 @@
 // The loader and the checker.
 use argument::Refusal;
+use case_text::lesser;
 use case_text::put::put;
+use case_text::put::put_line;
 use case_text::put::put_refusal;
 use case_text::read::at_most;
 use case_text::read::bytes_of;
@@ -10,8 +12,15 @@ use rules::Verdict;
 use script::Answer;
 use script_text::put_table;
 use script_text::table_at;
+use std::num::wrapping_add_usize;
+use table::Act;
+use table::Item;
+use table::Script;
+use table::Slot;
 
 const MOST_SCRIPT: usize = 8193;
+
+const ITEMS: usize = 128;
 
 pub fn put_form(out: &mut [u8], why: Refusal, line: usize) -> usize {
     put_refusal(out, argument::number(why) as usize, line)
@@ -28,16 +37,64 @@ fn put_verdict(out: &mut [u8], verdict: Verdict) -> usize {
     }
 }
 
+fn in_number(n: usize) -> usize {
+    if n == 0 { 0 } else { 1 }
+}
+
+fn in_act(act: Act) -> usize {
+    match act {
+        Act::Var(name) => in_number(name),
+        _ => 1,
+    }
+}
+
+// An empty place of a table declares name 0 on line 0.
+fn in_slot(slot: Slot) -> usize {
+    let item = slot.item;
+    if slot.line != 0 {
+        return 1;
+    }
+    match item {
+        Item::Act(act) => in_act(act),
+        _ => 1,
+    }
+}
+
+// How many of a table's places from one on hold something.
+fn in_places(script: Script, from: usize) -> usize {
+    let mut n: usize = 0;
+    let mut i = lesser(from, ITEMS);
+    while i < ITEMS {
+        let slot = script.items[i];
+        n = wrapping_add_usize(n, in_slot(slot));
+        i += 1;
+    }
+    n
+}
+
+// The same of a table that should be the empty one, with its numbers.
+fn in_table(script: Script) -> usize {
+    let numbers = wrapping_add_usize(in_number(script.count), in_number(script.names));
+    let numbers = wrapping_add_usize(in_number(script.end), numbers);
+    wrapping_add_usize(in_places(script, 0), numbers)
+}
+
+// Behind the answer, how many places past the items hold something; where the text is refused, how many of the whole
+// table do.
 fn put_loaded(out: &mut [u8], text: &[u8]) -> usize {
     let loaded = script::load(text);
     let answer = loaded.answer;
+    let script = loaded.script;
     match answer {
         Answer::Accepted => {
-            let script = loaded.script;
             let at = put(out, 0, b"result=0\n");
-            put_table(out, at, script)
+            let at = put_table(out, at, script);
+            put_line(out, at, b"spare=", in_places(script, script.count))
         }
-        Answer::Refused(why, line) => put_form(out, why, line),
+        Answer::Refused(why, line) => {
+            let at = put_form(out, why, line);
+            put_line(out, at, b"spare=", in_table(script))
+        }
     }
 }
 

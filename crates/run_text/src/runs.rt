@@ -386,11 +386,30 @@ fn put_flag(out: &mut [u8], at: usize, key: &[u8], b: bool) -> usize {
     }
 }
 
+// A state that a run goes on from, or what is kept of one that has ended.
+fn put_key(out: &mut [u8], at: usize, status: Status) -> usize {
+    match status {
+        Status::Live => put(out, at, b"state="),
+        _ => put(out, at, b"keeps="),
+    }
+}
+
+// That there are more open boxes than places for them.
+fn put_more(out: &mut [u8], at: usize, depth: usize) -> usize {
+    if BOXES < depth {
+        put(out, at, b",more")
+    } else {
+        at
+    }
+}
+
 fn put_stand(out: &mut [u8], at: usize, m: State) -> usize {
-    let at = put(out, at, b"state=");
+    let status = m.status;
+    let at = put_key(out, at, status);
     let at = put_number(out, at, m.at);
     let at = put(out, at, b" boxes=");
-    put_boxes(out, at, m)
+    let at = put_boxes(out, at, m);
+    put_more(out, at, m.depth)
 }
 
 fn put_held(out: &mut [u8], at: usize, m: State) -> usize {
@@ -398,22 +417,32 @@ fn put_held(out: &mut [u8], at: usize, m: State) -> usize {
     let at = put_flag(out, at, b" skip=", m.skip);
     let at = put_flag(out, at, b" package=", m.packed);
     let at = put(out, at, b" values=");
-    let at = put_vars(out, at, m);
-    put(out, at, b"\n")
+    put_vars(out, at, m)
 }
 
-fn put_live(out: &mut [u8], at: usize, m: State) -> usize {
-    let at = put_stand(out, at, m);
-    put_held(out, at, m)
+// How a run has ended; nothing where it goes on.
+fn put_status(out: &mut [u8], at: usize, status: Status) -> usize {
+    match status {
+        Status::Live => at,
+        Status::Finished => put(out, at, b" status=finished"),
+        Status::Stopped(stop) => {
+            let at = put(out, at, b" status=stopped:");
+            put_hex4(out, at, state::code_of_stop(stop))
+        }
+        Status::Fault(fault) => {
+            let at = put(out, at, b" status=fault:");
+            put_number(out, at, state::number_of_fault(fault) as usize)
+        }
+    }
 }
 
-// The line of a state; none where the run has ended.
+// The line of the state that a step left.
 fn put_state(out: &mut [u8], at: usize, m: State) -> usize {
     let status = m.status;
-    match status {
-        Status::Live => put_live(out, at, m),
-        _ => at,
-    }
+    let at = put_stand(out, at, m);
+    let at = put_held(out, at, m);
+    let at = put_status(out, at, status);
+    put(out, at, b"\n")
 }
 
 // ---- steps and runs

@@ -12,6 +12,7 @@ use package::Answer;
 use package::Metadatum;
 use package::Package;
 use package::Part;
+use std::num::wrapping_add_usize;
 
 const MOST_BYTES: usize = 65537;
 
@@ -99,12 +100,67 @@ fn put_judged(out: &mut [u8], at: usize, judged: Answer) -> usize {
     }
 }
 
-fn put_both(out: &mut [u8], bytes: &[u8]) -> usize {
-    let at = put_package(out, package::read_package(bytes));
-    put_judged(out, at, package::judge_package(bytes))
+fn in_metadatum(metadatum: Metadatum) -> usize {
+    match metadatum {
+        Metadatum::Given(_) => 1,
+        Metadatum::Missing => 0,
+    }
 }
 
-// Behind the answer, what the judge without parts says.
+fn in_amount(amount: Amount) -> usize {
+    match amount {
+        Amount::Invalid => 0,
+        _ => 1,
+    }
+}
+
+// How much an empty place holds; an empty one is of type 0, invalid, and without metadata.
+fn in_part(part: Part) -> usize {
+    let amount = part.amount;
+    let status = part.status;
+    let range = part.range;
+    let noise = part.noise;
+    if part.kind != 0 {
+        return 1;
+    }
+    let n = wrapping_add_usize(in_amount(amount), in_metadatum(status));
+    let n = wrapping_add_usize(in_metadatum(range), n);
+    wrapping_add_usize(in_metadatum(noise), n)
+}
+
+fn spare(read: Package) -> usize {
+    let mut n: usize = 0;
+    let mut i = lesser(read.count, package::MOST_PARTS);
+    while i < package::MOST_PARTS {
+        let part = read.parts[i];
+        n = wrapping_add_usize(n, in_part(part));
+        i += 1;
+    }
+    n
+}
+
+// How many parts a refused package is said to have.
+fn kept_back(read: Package) -> usize {
+    let answer = read.answer;
+    match answer {
+        Answer::Read => 0,
+        Answer::Refused(_, _) => read.count,
+    }
+}
+
+fn put_both(out: &mut [u8], bytes: &[u8]) -> usize {
+    let read = package::read_package(bytes);
+    let at = put_package(out, read);
+    let at = put_judged(out, at, package::judge_package(bytes));
+    put_line(
+        out,
+        at,
+        b"spare=",
+        wrapping_add_usize(spare(read), kept_back(read)),
+    )
+}
+
+// Behind the answer, what the judge without parts says, and how much stands past the parts.
 pub fn package(case: &[u8], out: &mut [u8]) -> usize {
     let mut bytes = [0u8; MOST_BYTES];
     let n = bytes_of(case, b"bytes=", &mut bytes);

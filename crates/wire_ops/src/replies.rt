@@ -1,12 +1,13 @@
 // Replies, read into a lent part of 1,024 rows, and one row by its number.
 ghost use mathlib.Core.Path.{_≡_};
-ghost use Prim.Native.Nat.{_≤_};
+ghost use Prim.Native.Nat.{_≤_, _-_};
 ghost use Rattle.reply.specs.Reply.{meaning, outcomeOf};
 use case_text::lesser;
 use case_text::put::put;
 use case_text::put::put_byte;
 use case_text::put::put_hex4;
 use case_text::put::put_line;
+use case_text::put::put_number;
 use case_text::read::bytes_of;
 use case_text::read::number_of;
 use reply::Answer;
@@ -14,6 +15,7 @@ use reply::Row;
 use reply::Table;
 use reply_line::Kind;
 use reply_line::Refusal;
+use std::num::wrapping_add_usize;
 
 const MOST_BYTES: usize = 65537;
 
@@ -34,10 +36,10 @@ const NO_ROW: usize = 56;
 // How many marks four hex digits have.
 const MARKS: u32 = 65536;
 
-// The first n of 1,024 rows are lent.
-fn lend_part(reply: &[u8], n: usize) -> Table
-    requires { ⌜ n ≤ 1024 ⌝ }
-    ensures { λ r. ⌜ meaning (r .answer) ≡ outcomeOf n (now (reply .entry)) ⌝ }
+// Of 1,024 rows those from one place to another are lent.
+fn lend_part(reply: &[u8], from: usize, to: usize) -> Table
+    requires { ⌜ (from ≤ to) × (to ≤ 1024) ⌝ }
+    ensures { λ r. ⌜ meaning (r .answer) ≡ outcomeOf (to - from) (now (reply .entry)) ⌝ }
 {
     let mut rows = [Row {
         kind: Kind::Plain,
@@ -45,7 +47,7 @@ fn lend_part(reply: &[u8], n: usize) -> Table
         parent: PARENT,
         packages: PACKAGES,
     }; 1024];
-    let answer = reply::read_reply(reply, &mut rows[..n]);
+    let answer = reply::read_reply(reply, &mut rows[from..to]);
     Table {
         rows: rows,
         answer: answer,
@@ -72,19 +74,24 @@ fn as_before(row: Row) -> usize
     1
 }
 
-// How many rows hold what they held before.
-fn kept(table: Table) -> usize {
+// How many of the rows from one place to another hold what they held before.
+fn kept(table: Table, from: usize, to: usize) -> usize {
+    let end = lesser(to, ROWS);
     let mut n: usize = 0;
-    let mut i: usize = 0;
-    while i < ROWS {
+    let mut i = lesser(from, end);
+    while i < end {
         let row = table.rows[i];
-        n += as_before(row);
+        n = wrapping_add_usize(n, as_before(row));
         i += 1;
     }
     n
 }
 
+// Four hex digits; what has more is put as a number.
 fn put_mark(out: &mut [u8], at: usize, mark: u32) -> usize {
+    if MARKS <= mark {
+        return put_number(out, at, mark as usize);
+    }
     let low = mark % MARKS;
     put_hex4(out, at, low as u16)
 }
@@ -104,12 +111,13 @@ fn put_numbered(out: &mut [u8], at: usize, i: usize, row: Row) -> usize {
     put_row(out, at, row)
 }
 
-fn put_rows(out: &mut [u8], at: usize, table: Table, rows: usize) -> usize {
+// The rows from the first that was lent on.
+fn put_rows(out: &mut [u8], at: usize, table: Table, first: usize, rows: usize) -> usize {
     let count = lesser(rows, ROWS);
     let mut at = at;
     let mut i: usize = 0;
     while i < count {
-        let row = table.rows[i];
+        let row = reply::row_of(table, wrapping_add_usize(first, i));
         at = put_numbered(out, at, i, row);
         i += 1;
     }
@@ -125,7 +133,7 @@ fn put_bad(out: &mut [u8], why: Refusal, line: usize) -> usize {
     put_refused(out, reply_line::number(why) as usize, line)
 }
 
-fn put_listing(out: &mut [u8], table: Table) -> usize {
+fn put_listing(out: &mut [u8], table: Table, first: usize) -> usize {
     let answer = table.answer;
     match answer {
         Answer::Read { code, used, rows } => {
@@ -133,19 +141,28 @@ fn put_listing(out: &mut [u8], table: Table) -> usize {
             let at = put_mark(out, at, code);
             let at = put_line(out, at, b"\nused=", used);
             let at = put_line(out, at, b"rows=", rows);
-            put_rows(out, at, table, rows)
+            put_rows(out, at, table, first, rows)
         }
         Answer::Refused(why, line) => put_bad(out, why, line),
     }
 }
 
-// Behind the answer, how many of all 1,024 rows hold what they held before.
+// Which part of the rows is lent differs from case to case: the reply's length says how many stand in front of it.
+// Behind the answer, how many of those and how many of the others hold what they held before.
+fn put_lent(out: &mut [u8], reply: &[u8], lent: usize) -> usize {
+    let count = lesser(lent, ROWS);
+    let first = lesser(reply.len() % ROWS, ROWS - count);
+    let table = lend_part(reply, first, first + count);
+    let at = put_listing(out, table, first);
+    let at = put(out, at, b"kept=");
+    let at = put_number(out, at, kept(table, 0, first));
+    put_line(out, at, b" ", kept(table, first, ROWS))
+}
+
 pub fn reply(case: &[u8], out: &mut [u8]) -> usize {
     let mut bytes = [0u8; MOST_BYTES];
     let n = bytes_of(case, b"bytes=", &mut bytes);
-    let table = lend_part(&bytes[..n], lesser(number_of(case, b"rows="), ROWS));
-    let at = put_listing(out, table);
-    put_line(out, at, b"kept=", kept(table))
+    put_lent(out, &bytes[..n], number_of(case, b"rows="))
 }
 
 fn put_one(out: &mut [u8], table: Table, i: usize, rows: usize) -> usize {

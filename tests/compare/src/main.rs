@@ -1,15 +1,11 @@
-//! The proved code beside the second program.
-//!
-//! `compare cases [states]` writes the proved code's answers to cases from standard input;
-//! `compare examples` runs the examples of the documents and the bounds against both;
-//! `compare seeded all|emulated|some` compares the seeded cases, asked of the library and of the C entry points;
-//! `compare programs PATH ..` runs the programs `rows` and `vet` on seeded input.
+//! The proved code beside the second program; `USAGE` says what can be asked.
 
 use std::io::Read;
+use std::panic::{catch_unwind, resume_unwind, AssertUnwindSafe};
 use std::process::exit;
 use std::time::Instant;
 
-use compare::called::as_from_c;
+use compare::called::{as_from_c, is_called};
 use compare::examples;
 use compare::judge::{asked, Hits};
 use compare::programs;
@@ -17,6 +13,16 @@ use compare::proved::{fits, Answering, Program};
 use second::cases::{answer, as_asked, read_case, write_case, Case};
 use second::reply::ROWS;
 use second::seeded::{self, Seed};
+
+const USAGE: &str = "\
+usage: compare cases [states]                        the proved code's answers to cases from standard input
+       compare examples                              the documents' examples and the bounds
+       compare seeded all|emulated|some [SEED]       seeded cases, asked of the library and of the C entry points
+       compare again SORT NUMBER [SEED]              one of the seeded cases once more, shown with both answers
+       compare programs ROWS VET [SEED]              the two programs on seeded input
+SEED is a whole number below 2^64 that all cases come from; without it it is 0, as in the gate. A case that differs is
+shown with the words that ask it again.
+";
 
 /// A sort of seeded cases.
 struct Sort {
@@ -41,6 +47,8 @@ const SORTS: &[Sort] = &[
     Sort { name: "check_table", count: 20_000, slow: 1, make: seeded::check_table, called: false },
     Sort { name: "run", count: 50_000, slow: 4, make: seeded::run, called: false },
     Sort { name: "run_table", count: 20_000, slow: 1, make: seeded::run_table, called: false },
+    Sort { name: "lines", count: 20_000, slow: 1, make: seeded::lines, called: false },
+    Sort { name: "content", count: 10_000, slow: 1, make: seeded::content, called: false },
 ];
 
 /// How many of the seeded cases are asked.
@@ -54,6 +62,15 @@ enum Extent {
 }
 
 impl Extent {
+    fn read(word: &str) -> Extent {
+        match word {
+            "all" => Extent::All,
+            "emulated" => Extent::Emulated,
+            "some" => Extent::Some,
+            _ => usage(),
+        }
+    }
+
     fn of(self, sort: &Sort) -> u64 {
         match self {
             Extent::All => sort.count,
@@ -80,13 +97,16 @@ fn main() {
     let words: Vec<String> = std::env::args().skip(1).collect();
     let words: Vec<&str> = words.iter().map(String::as_str).collect();
     let failed = match words[..] {
+        ["--help"] => return print!("{USAGE}"),
         ["cases"] => return answer_cases(false),
         ["cases", "states"] => return answer_cases(true),
         ["examples"] => named_cases(),
-        ["seeded", "all"] => seeded_cases(Extent::All),
-        ["seeded", "emulated"] => seeded_cases(Extent::Emulated),
-        ["seeded", "some"] => seeded_cases(Extent::Some),
-        ["programs", ref paths @ ..] => paths.iter().map(|path| programs::run(path.as_ref())).sum(),
+        ["seeded", extent, ref seed @ ..] => seeded_cases(Extent::read(extent), seed_of(seed)),
+        ["again", sort, number, ref seed @ ..] => ask_again(sort, number_of(number), seed_of(seed)),
+        ["programs", rows, vet, ref seed @ ..] => {
+            let seed = seed_of(seed);
+            programs::rows(rows.as_ref(), seed) + programs::vet(vet.as_ref(), seed)
+        }
         _ => usage(),
     };
     if failed > 0 {
@@ -94,13 +114,42 @@ fn main() {
     }
 }
 
-fn usage() -> usize {
-    eprintln!("usage: compare cases [states] | examples | seeded all|emulated|some | programs PATH ..");
+fn usage() -> ! {
+    eprint!("{USAGE}");
     exit(2);
+}
+
+fn number_of(word: &str) -> u64 {
+    word.parse().unwrap_or_else(|_| usage())
+}
+
+/// The seed of all cases, 0 where none is given.
+fn seed_of(words: &[&str]) -> u64 {
+    match words {
+        [] => 0,
+        [seed] => number_of(seed),
+        _ => usage(),
+    }
+}
+
+/// Which of the seeded cases one is, or follows from.
+#[derive(Clone, Copy)]
+struct Made {
+    sort: &'static str,
+    number: u64,
+    seed: u64,
+}
+
+impl Made {
+    fn say(&self) {
+        let Made { sort, number, seed } = self;
+        println!("from {sort} {number} of seed {seed}: tests/run again {sort} {number} {seed}");
+    }
 }
 
 /// A case that was answered otherwise than the second program expects.
 struct Difference {
+    made: Option<Made>,
     case: Case,
     expected: String,
     answer: String,
@@ -108,7 +157,8 @@ struct Difference {
 
 impl Difference {
     fn show(&self) {
-        let Difference { case, expected, answer } = self;
+        let Difference { made, case, expected, answer } = self;
+        made.iter().for_each(Made::say);
         println!("{}\nsecond program:\n{expected}\nproved code:\n{answer}", write_case(case));
     }
 }
@@ -117,15 +167,18 @@ impl Difference {
 struct Batch<'a> {
     whom: &'a dyn Answering,
     cases: Vec<Case>,
+    /// Where each of the cases comes from.
+    made: Vec<Option<Made>>,
     different: Vec<Difference>,
 }
 
 impl<'a> Batch<'a> {
     fn of(whom: &'a dyn Answering) -> Batch<'a> {
-        Batch { whom, cases: Vec::new(), different: Vec::new() }
+        Batch { whom, cases: Vec::new(), made: Vec::new(), different: Vec::new() }
     }
 
-    fn take(&mut self, cases: Vec<Case>) {
+    fn take(&mut self, cases: Vec<Case>, made: Option<Made>) {
+        self.made.resize(self.made.len() + cases.len(), made);
         self.cases.extend(cases);
         if self.cases.len() >= AT_ONCE {
             self.ask();
@@ -133,12 +186,12 @@ impl<'a> Batch<'a> {
     }
 
     fn ask(&mut self) {
-        let cases = std::mem::take(&mut self.cases);
+        let (cases, made) = (std::mem::take(&mut self.cases), std::mem::take(&mut self.made));
         let answers = self.whom.answers(&cases);
-        for (case, answer) in cases.into_iter().zip(answers) {
+        for ((case, made), answer) in cases.into_iter().zip(made).zip(answers) {
             let expected = self.whom.expected(&case);
             if answer != expected {
-                self.different.push(Difference { case, expected, answer });
+                self.different.push(Difference { made, case, expected, answer });
             }
         }
     }
@@ -175,7 +228,7 @@ fn refuse(why: &str, case: &str) -> Case {
     exit(2);
 }
 
-/// Runs the cases by name; says how many failed.
+/// Runs the cases by name, by the C entry points too where they answer such a case; says how many failed.
 fn named_cases() -> usize {
     let examples = examples::all();
     let library = Program::of_library();
@@ -187,9 +240,16 @@ fn named_cases() -> usize {
             failed += 1;
             println!("{}\nexpected:\n{}", write_case(&example.case), example.expected.as_deref().unwrap_or(""));
         }
-        batch.take(asked(&example.case, &mut Hits::default()));
+        batch.take(asked(&example.case, &mut Hits::default()), None);
     }
-    let different = batch.end();
+    let mut different = batch.end();
+    for whom in &in_c() {
+        let mut batch = Batch::of(&**whom);
+        for example in examples.iter().filter(|example| is_called(&example.case)) {
+            batch.take(vec![as_from_c(&example.case)], None);
+        }
+        different.extend(batch.end());
+    }
     different.iter().take(SHOWN).for_each(Difference::show);
     failed += different.len();
     println!("cases by name: {}, {failed} failed", examples.len());
@@ -197,16 +257,19 @@ fn named_cases() -> usize {
 }
 
 /// Compares the seeded cases; says how many failed.
-fn seeded_cases(extent: Extent) -> usize {
+fn seeded_cases(extent: Extent, seed: u64) -> usize {
     let mut hits = Hits::default();
     let mut failed = 0;
     let library = Program::of_library();
     let from_c = in_c();
-    for (number, sort) in SORTS.iter().enumerate() {
-        let seeds = Seeds { sort: number as u64, count: extent.of(sort) };
+    if seed != 0 {
+        println!("all cases from seed {seed}");
+    }
+    for (place, sort) in SORTS.iter().enumerate() {
+        let seeds = Seeds { seed, sort: place as u64, count: extent.of(sort) };
         failed += sort.compare(&seeds, &library, asked, &mut hits);
         for whom in from_c.iter().filter(|_| sort.called) {
-            failed += sort.compare(&seeds, &**whom, |case, _| vec![as_from_c(case)], &mut Hits::default());
+            failed += sort.compare(&seeds, &**whom, from_c_alone, &mut Hits::default());
         }
     }
     if extent == Extent::Some {
@@ -214,6 +277,37 @@ fn seeded_cases(extent: Extent) -> usize {
         return failed;
     }
     failed + seldom(&hits)
+}
+
+/// A case as the C entry points are asked; none follows from it.
+fn from_c_alone(case: &Case, _: &mut Hits) -> Vec<Case> {
+    vec![as_from_c(case)]
+}
+
+/// Asks one of the seeded cases, and what follows from it, once more; shows all, and says how many answers differ.
+fn ask_again(name: &str, number: u64, seed: u64) -> usize {
+    let Some(place) = SORTS.iter().position(|sort| sort.name == name) else { usage() };
+    let sort = &SORTS[place];
+    let case = (sort.make)(&mut Seed::of(seed, place as u64, number));
+    let mut failed = show_all(&Program::of_library(), asked(&case, &mut Hits::default()));
+    for whom in in_c().iter().filter(|_| sort.called) {
+        failed += show_all(&**whom, vec![as_from_c(&case)]);
+    }
+    failed
+}
+
+/// Shows the cases with both answers; says how many differ.
+fn show_all(whom: &dyn Answering, cases: Vec<Case>) -> usize {
+    let mut failed = 0;
+    let answers = whom.answers(&cases);
+    for (case, answer) in cases.into_iter().zip(answers) {
+        let expected = whom.expected(&case);
+        let differ = answer != expected;
+        failed += usize::from(differ);
+        println!("{}: {}", whom.name(), if differ { "different" } else { "alike" });
+        Difference { made: None, case, expected, answer }.show();
+    }
+    failed
 }
 
 /// Who answers for the C entry points: a C program, and this program itself where it is linked with them.
@@ -240,8 +334,9 @@ fn seldom(hits: &Hits) -> usize {
     failed
 }
 
-/// The seeds of one sort's cases.
+/// The seeds of one sort's cases: the seed of all, the sort's place among the sorts, and how many there are.
 struct Seeds {
+    seed: u64,
     sort: u64,
     count: u64,
 }
@@ -272,7 +367,13 @@ impl Sort {
         let mut hits = Hits::default();
         let mut batch = Batch::of(whom);
         for number in (first..seeds.count).step_by(WORKERS) {
-            batch.take(follow(&(self.make)(&mut Seed::of(seeds.sort, number)), &mut hits));
+            let made = Made { sort: self.name, number, seed: seeds.seed };
+            let case = || follow(&(self.make)(&mut Seed::of(seeds.seed, seeds.sort, number)), &mut hits);
+            let cases = catch_unwind(AssertUnwindSafe(case)).unwrap_or_else(|panic| {
+                made.say();
+                resume_unwind(panic)
+            });
+            batch.take(cases, Some(made));
         }
         (batch.end(), hits)
     }

@@ -165,7 +165,10 @@ impl<'a> Machine<'a> {
         }
         let turn = match self.turn(state) {
             Ok(turn) => turn,
-            Err(fault) => return end(state, Answer::Fault(fault)),
+            Err(fault) => {
+                (state.abort, state.skip) = (abort, skip);
+                return end(state, Answer::Fault(fault));
+            }
         };
         match (self.wants(state.at), offer) {
             (Wants::Nothing, Offer::Nothing) | (Wants::Float, Offer::Float(_)) => {}

@@ -28,7 +28,7 @@ const LINES: [&str; 22] = [
 ];
 
 pub fn all() -> Vec<Example> {
-    [printed(), refusals(), bounds()].into_iter().flatten().collect()
+    [printed(), refusals(), bounds(), contents()].into_iter().flatten().collect()
 }
 
 fn hex(bytes: &[u8]) -> String {
@@ -121,4 +121,13 @@ fn framed(content: &[u8], digits: &str) -> Vec<u8> {
     let sum = second::frame::crc16(&line);
     line.extend(format!("{sum:04X}").bytes());
     line
+}
+
+/// The content of a line by each length, also by more than it has.
+fn contents() -> Vec<Example> {
+    let line = b"e03BFA2";
+    let lengths = (0..=line.len() + 1).chain([127, usize::MAX]);
+    let content = |length: usize| Case::Content { line: line.to_vec(), length };
+    let good = |length: usize| format!("content={}\n", hex(&line[..line.len().min(length)]));
+    lengths.map(|length| expect(content(length), good(length))).collect()
 }

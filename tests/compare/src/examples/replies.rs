@@ -2,7 +2,9 @@ use super::{alike, expect, lines, refused, Example};
 use second::cases::Case;
 
 pub fn all() -> Vec<Example> {
-    [packages(), cut_packages(), replies(), refused_replies(), bounds(), cut_replies(), rows()].into_iter().flatten().collect()
+    let packages = [packages(), cut_packages()];
+    let replies = [replies(), refused_replies(), bounds(), cut_replies(), rows(), line_readers()];
+    packages.into_iter().chain(replies).flatten().collect()
 }
 
 fn package(text: &str) -> Case {
@@ -225,4 +227,23 @@ fn rows() -> Vec<Example> {
         expect(row(usize::MAX, good), refused_line(56, 0)),
         expect(row(99, "e|*|"), refused_line(52, 2)),
     ]
+}
+
+/// A reader of lines over a few bytes, and over as many lines as there can be here.
+fn line_readers() -> Vec<Example> {
+    let read = |text: &str| Case::Lines { bytes: lines(text) };
+    let one = "at=0\nstart=0 end=1 at=2 line=65\nnone at=2\nnone at=2\n";
+    let mut examples = vec![
+        expect(read(""), "at=0\nnone at=0\nnone at=0\n".into()),
+        expect(read("e"), "at=0\nnone at=0\nnone at=0\n".into()),
+        expect(read("e|"), one.into()),
+        expect(read("e|more"), one.into()),
+        expect(read("|"), "at=0\nstart=0 end=0 at=1 line=\nnone at=1\nnone at=1\n".into()),
+    ];
+    for count in [1, 2, 4_094, 4_095, 4_096] {
+        examples.push(alike(read(&"|".repeat(count))));
+        examples.push(alike(read(&"x".repeat(count))));
+        examples.push(alike(read(&format!("{}|", "x".repeat(count - 1)))));
+    }
+    examples
 }

@@ -11,14 +11,17 @@ use crate::package::{self, Number, Part};
 use crate::reply::{self, Reply, Row, EMPTY, ROWS};
 use crate::table::{Condition, Item, Operand, Table, MOST_BOXES};
 use crate::value::{Value, COMPARISONS};
-use crate::{frame, load, rules, Refusal};
+use crate::{frame, load, rules, Lines, Refusal};
 
 /// How many bytes are lent at the most, and what they are where the case's own text is too long to be laid in them.
 const MOST_LENT: usize = 4096;
 const BEFORE: u8 = 165;
 
-/// The keys of the lines beside an answer, and that of a run's states.
-const BESIDE: [&str; 5] = ["host=", "lent=", "kept=", "judged=", "spare="];
+/// No more of a reply is read there, one byte over the longest.
+const MOST_READ: usize = 65_537;
+
+/// The keys of the lines beside an answer, and that of the states of a run that goes on.
+const BESIDE: [&str; 6] = ["host=", "lent=", "kept=", "judged=", "spare=", "keeps="];
 const STATE: &str = "state=";
 
 /// The answer as a caller asks for it: without the lines beside it, and with the states of a run or without.
@@ -42,10 +45,10 @@ pub fn answer(case: &Case) -> String {
             };
             format!("{said}lent={}\n", hex(&lent))
         }
-        Case::Load { script } => match load::load(script) {
-            Ok(table) => format!("result=0\n{}", write_table(&table)),
-            Err(refusal) => refused(refusal),
-        },
+        Case::Load { script } => {
+            let said = load::load(script).map_or_else(refused, |table| format!("result=0\n{}", write_table(&table)));
+            format!("{said}spare=0\n")
+        }
         Case::Check { script } => verdict(rules::check_text(script)),
         Case::CheckTable { length, table } => verdict(rules::check(table, *length)),
         Case::Table { table } => write_table(table),
@@ -79,19 +82,49 @@ pub fn answer(case: &Case) -> String {
                 Ok(_) => "0".into(),
                 Err(refusal) => format!("{} {}", refusal.number, refusal.place),
             };
-            format!("{}judged={judged}\n", read.map_or_else(refused, |parts| write_parts(&parts)))
+            format!("{}judged={judged}\nspare=0\n", read.map_or_else(refused, |parts| write_parts(&parts)))
         }
         Case::Reply { rows, bytes } => {
             let mut lent = vec![EMPTY; *rows];
             let answer = reply::read(bytes, &mut lent);
             let written = answer.as_ref().map_or(0, |reply| reply.rows);
-            format!("{}kept={}\n", listing(answer, &lent), ROWS.saturating_sub(written))
+            let before = rows_before(*rows, bytes);
+            format!("{}kept={before} {}\n", listing(answer, &lent), (ROWS - before).saturating_sub(written))
         }
         Case::Row { row, bytes } => match reply::row(bytes, *row) {
             Ok(row) => format!("result=0\n{}", write_row(&row)),
             Err(refusal) => refused_at_line(refusal),
         },
+        Case::Lines { bytes } => write_lines(bytes),
+        Case::Content { line, length } => format!("content={}\n", hex(&line[..line.len().min(*length)])),
     }
+}
+
+/// How many of 1,024 rows stand in front of those that are lent: the reply's length says where the lent part lies.
+fn rows_before(lent: usize, reply: &[u8]) -> usize {
+    (reply.len().min(MOST_READ) % ROWS).min(ROWS - lent.min(ROWS))
+}
+
+/// Where a new reader of lines stands, then each line by its place, where the reader stands behind it, and its bytes;
+/// twice, that there is none.
+fn write_lines(bytes: &[u8]) -> String {
+    let mut lines = Lines::of(bytes);
+    let mut text = format!("at={}\n", lines.at());
+    let mut none = 0;
+    while none < 2 {
+        let start = lines.at();
+        match lines.next() {
+            Some(line) => {
+                let (end, at) = (start + line.len(), lines.at());
+                text += &format!("start={start} end={end} at={at} line={}\n", hex(line));
+            }
+            None => {
+                none += 1;
+                text += &format!("none at={}\n", lines.at());
+            }
+        }
+    }
+    text
 }
 
 /// What a lent buffer holds before it is lent: the case's own text, so that hardly a byte is like the next.
@@ -173,7 +206,7 @@ fn write_run(run: &[Stepped]) -> String {
     for (place, step) in run.iter().enumerate() {
         let things = joined(step.things.iter().map(write_thing));
         text += &format!("step={} answer={} things={things}\n", place + 1, write_answer(step.answer));
-        text += &write_live(&step.state);
+        text += &write_left(&step.state);
     }
     text
 }
@@ -181,15 +214,15 @@ fn write_run(run: &[Stepped]) -> String {
 fn write_ran(ran: &Ran) -> String {
     let answers = joined(ran.answers.iter().map(|(answer, things)| format!("{}/{things}", write_answer(*answer))));
     let things = joined(ran.things.iter().map(write_thing));
-    format!("answers={answers}\nthings={things}\n{}", write_live(&ran.state))
+    format!("answers={answers}\nthings={things}\n{}", write_left(&ran.state))
 }
 
-/// The line of a state; none where the run has ended.
-fn write_live(state: &State) -> String {
-    if state.ended.is_some() {
-        return String::new();
+/// The line of the state that a step left; of a run that has ended, beside the answer, what it keeps and how it ended.
+fn write_left(state: &State) -> String {
+    match state.ended {
+        None => write_state(state),
+        Some(answer) => format!("keeps={} status={}\n", state_words(state), write_answer(answer)),
     }
-    write_state(state)
 }
 
 pub(super) fn write_answer(answer: Answer) -> String {
@@ -222,11 +255,15 @@ fn write_thing(thing: &Thing) -> String {
 }
 
 pub(super) fn write_state(state: &State) -> String {
+    format!("{STATE}{}\n", state_words(state))
+}
+
+fn state_words(state: &State) -> String {
     let boxes = joined(state.boxes.iter().map(usize::to_string));
     let values = state.values.iter().enumerate().filter_map(|(name, written)| Some((name, (*written)?)));
     let values = joined(values.map(|(name, (value, kind))| format!("{name}:{}:{kind:04X}", write_value(&value))));
     let (abort, skip, package) = (u8::from(state.abort), u8::from(state.skip), u8::from(state.package));
-    format!("state={} boxes={boxes} abort={abort} skip={skip} package={package} values={values}\n", state.at)
+    format!("{} boxes={boxes} abort={abort} skip={skip} package={package} values={values}", state.at)
 }
 
 /// The parts joined by commas, `-` for none.

@@ -33,6 +33,10 @@ pub enum Case {
     RunWithin { length: usize, table: Table, state: State, steps: Vec<(Control, Offer)>, budget: usize },
     /// The script loaded, checked and run from fresh, 64 steps at most.
     RunSafe { script: Vec<u8>, steps: Vec<(Control, Offer)> },
+    /// A reader of lines over these bytes, asked until no line is left, and once more.
+    Lines { bytes: Vec<u8> },
+    /// The content of a line, by its length.
+    Content { line: Vec<u8>, length: usize },
 }
 
 const ARITHMETIC: [(&str, Operation); 4] = [
@@ -63,7 +67,7 @@ mod tests {
 
     #[test]
     fn what_is_written_is_read() {
-        let sorts: [fn(&mut Seed) -> Case; 10] = [
+        let sorts: [fn(&mut Seed) -> Case; 12] = [
             seeded::frame_read,
             seeded::frame_write,
             seeded::package,
@@ -74,10 +78,12 @@ mod tests {
             seeded::check_table,
             seeded::run,
             seeded::run_table,
+            seeded::lines,
+            seeded::content,
         ];
         for (sort, make) in sorts.iter().enumerate() {
             for number in 0..200 {
-                let text = write_case(&make(&mut Seed::of(sort as u64, number)));
+                let text = write_case(&make(&mut Seed::of(0, sort as u64, number)));
                 let again = read_case(&text).map(|case| write_case(&case));
                 assert_eq!(again, Some(text));
             }

@@ -1,9 +1,10 @@
 //! Cases read from text.
 
+use super::answer::write_answer;
 use super::{Case, ALONE, ARITHMETIC};
 use crate::machine::{Answer, Control, Offer, State};
 use crate::table::{Condition, Item, Operand, Slot, Table, Type, MOST_ITEMS, MOST_NAMES};
-use crate::value::{Comparison, Value};
+use crate::value::{Comparison, Value, NOT_FINITE, ZERO_DIVISOR};
 
 /// The lines of one case, read in order.
 struct Fields<'a> {
@@ -40,6 +41,8 @@ pub fn read_case(text: &str) -> Option<Case> {
         "package" => Case::Package { bytes: fields.bytes("bytes")? },
         "reply" => Case::Reply { rows: fields.number("rows")?, bytes: fields.bytes("bytes")? },
         "row" => Case::Row { row: fields.number("row")?, bytes: fields.bytes("bytes")? },
+        "lines" => Case::Lines { bytes: fields.bytes("bytes")? },
+        "content" => Case::Content { line: fields.bytes("line")?, length: fields.number("length")? },
         _ => return None,
     };
     fields.lines.next().is_none().then_some(case)
@@ -97,7 +100,7 @@ impl<'a> Fields<'a> {
         }
         let ended = match self.take("ended")? {
             "-" => None,
-            answer => Some(read_answer(answer)?),
+            answer => Some(read_end(answer)?),
         };
         Some(State { at, boxes, values, abort, skip, package, ended })
     }
@@ -131,17 +134,11 @@ fn read_step(text: &str) -> Option<(Control, Offer)> {
     words.next().is_none().then_some((control, offer))
 }
 
-fn read_answer(text: &str) -> Option<Answer> {
-    let (word, number) = text.split_once(':').unwrap_or((text, "0"));
-    Some(match word {
-        "running" => Answer::Running,
-        "waiting" => Answer::Waiting,
-        "finished" => Answer::Finished,
-        "stopped" => Answer::Stopped(u16::from_str_radix(number, 16).ok()?),
-        "fault" => Answer::Fault(number.parse().ok()?),
-        "refused" => Answer::Refused(number.parse().ok()?),
-        _ => return None,
-    })
+/// The answer with which a run has ended.
+fn read_end(text: &str) -> Option<Answer> {
+    let ends = [Answer::Finished, Answer::Stopped(ZERO_DIVISOR), Answer::Stopped(NOT_FINITE)];
+    let faults = (60..=64).map(Answer::Fault);
+    ends.into_iter().chain(faults).find(|&end| write_answer(end) == text)
 }
 
 fn read_float(text: &str) -> Option<f64> {

@@ -29,6 +29,8 @@ pub fn write_case(case: &Case) -> String {
         Case::Package { bytes } => format!("op=package\nbytes={}\n", hex(bytes)),
         Case::Reply { rows, bytes } => format!("op=reply\nrows={rows}\nbytes={}\n", hex(bytes)),
         Case::Row { row, bytes } => format!("op=row\nrow={row}\nbytes={}\n", hex(bytes)),
+        Case::Lines { bytes } => format!("op=lines\nbytes={}\n", hex(bytes)),
+        Case::Content { line, length } => format!("op=content\nline={}\nlength={length}\n", hex(line)),
     }
 }
 

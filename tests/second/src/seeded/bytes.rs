@@ -13,7 +13,7 @@ fn length_near(seed: &mut Seed, bound: usize) -> usize {
     }
 }
 
-fn content(seed: &mut Seed) -> Vec<u8> {
+fn any_content(seed: &mut Seed) -> Vec<u8> {
     let length = length_near(seed, 127);
     let any = seed.one_in(4);
     let mut bytes: Vec<u8> = (0..length)
@@ -31,7 +31,7 @@ fn content(seed: &mut Seed) -> Vec<u8> {
 }
 
 pub fn frame_write(seed: &mut Seed) -> Case {
-    let content = content(seed);
+    let content = any_content(seed);
     let exact = content.len() + 7;
     let buffer = match seed.below(5) {
         0 => exact - 1,
@@ -43,7 +43,7 @@ pub fn frame_write(seed: &mut Seed) -> Case {
 }
 
 pub fn frame_read(seed: &mut Seed) -> Case {
-    let mut line = content(seed);
+    let mut line = any_content(seed);
     let number = if seed.one_in(6) { 0xFF } else { seed.byte() };
     let digits = match seed.below(12) {
         0 => format!("{number:02x}"),
@@ -126,7 +126,7 @@ fn reply_lines(seed: &mut Seed) -> Vec<Vec<u8>> {
                 lines.push(if sweep { format!("M{:04X}", seed.below(20)).into_bytes() } else { b"L".to_vec() });
             }
             2 if !open.is_empty() => lines.push(closing(open.pop())),
-            3 => lines.push([&b"T"[..], &content(seed).iter().map(|byte| byte | 32).collect::<Vec<u8>>()].concat()),
+            3 => lines.push([&b"T"[..], &any_content(seed).iter().map(|byte| byte | 32).collect::<Vec<u8>>()].concat()),
             4 => lines.push(vec![seed.pick(b"hHYZ")]),
             _ if !deep || seed.one_in(2) => lines.push(package_line(seed, 100)),
             _ => {}
@@ -228,3 +228,29 @@ pub fn row(seed: &mut Seed) -> Case {
     Case::Row { row, bytes }
 }
 
+/// The most bytes that a reader of lines is put over here.
+const MOST_IN_LINES: usize = 4_096;
+
+pub fn lines(seed: &mut Seed) -> Case {
+    let mut bytes = match seed.below(4) {
+        0 => (0..length_near(seed, 200)).map(|_| seed.pick(b"\n\n\rx\0 e\x0B\x0C\xFF")).collect(),
+        1 => (0..seed.below(24)).map(|_| seed.telling_byte()).collect(),
+        _ => reply_bytes(seed),
+    };
+    if seed.one_in(40) {
+        bytes.resize(seed.within(MOST_IN_LINES - 3..=MOST_IN_LINES), seed.pick(b"\nx"));
+    }
+    bytes.truncate(MOST_IN_LINES);
+    Case::Lines { bytes }
+}
+
+/// A length below, at and above that of the line.
+pub fn content(seed: &mut Seed) -> Case {
+    let line = any_content(seed);
+    let length = match seed.below(4) {
+        0 => line.len(),
+        1 => seed.pick(&[line.len() + 1, line.len().saturating_sub(1), 0, 127, 1 << 32, usize::MAX]),
+        _ => seed.within(0..=line.len()),
+    };
+    Case::Content { line, length }
+}

@@ -1,10 +1,10 @@
-//! Seeded cases: the same seed gives the same case on every machine.
+//! Seeded cases: the same seed, sort and number give the same case on every machine.
 
 mod bytes;
 mod runs;
 mod scripts;
 
-pub use bytes::{frame_read, frame_write, package, reply, row};
+pub use bytes::{content, frame_read, frame_write, lines, package, reply, row};
 pub use runs::{check_table, run, run_table};
 pub use scripts::{check, load, script, Wild};
 
@@ -12,9 +12,10 @@ pub use scripts::{check, load, script, Wild};
 pub struct Seed(u64);
 
 impl Seed {
-    /// The seed of one case of one sort.
-    pub fn of(sort: u64, case: u64) -> Seed {
-        let mut seed = Seed(sort.wrapping_mul(0xA076_1D64_78BD_642F) ^ case);
+    /// The seed of one case of one sort, by the seed of them all; the gate's is 0.
+    pub fn of(all: u64, sort: u64, case: u64) -> Seed {
+        let (all, sort) = (all.wrapping_mul(0xE703_7ED1_A0B4_28DB), sort.wrapping_mul(0xA076_1D64_78BD_642F));
+        let mut seed = Seed(all ^ sort ^ case);
         seed.next();
         seed
     }

@@ -92,7 +92,7 @@ fn table(seed: &mut Seed) -> (usize, Table) {
         _ => {}
     }
     if seed.one_in(4) {
-        table.end = seed.pick(&[0, 1, 9_000, 1 << 20]);
+        table.end = seed.pick(&[0, 1, 9_000, 1 << 20, usize::MAX]);
         for slot in &mut table.slots {
             slot.line = seed.below(70_000);
         }
@@ -225,12 +225,13 @@ fn state(seed: &mut Seed, table: &Table) -> State {
     }
     (state.abort, state.skip, state.package) = (seed.one_in(8), seed.one_in(5), seed.one_in(5));
     match seed.below(40) {
-        0 => state.at = seed.pick(&[table.slots.len() + 1, 129, 255]),
+        0 => state.at = seed.pick(&[table.slots.len() + 1, 129, 255, 1 << 40, usize::MAX]),
         1 => state.values[seed.below(32)] = Some((Value::Real(f64::NAN), 0)),
-        2 => state.boxes.insert(0, seed.pick(&[127, 128, 200])),
+        2 => state.boxes.insert(0, seed.pick(&[127, 128, 200, 1 << 40, usize::MAX])),
         3 | 4 => {
-            let ends = [Answer::Finished, Answer::Stopped(0x28), Answer::Stopped(0x10), Answer::Fault(60), Answer::Fault(64)];
-            state.ended = Some(seed.pick(&ends));
+            let ends = [Answer::Finished, Answer::Stopped(0x28), Answer::Stopped(0x10)];
+            let fault = Answer::Fault(seed.within(60..=64) as u16);
+            state.ended = Some(if seed.one_in(2) { fault } else { seed.pick(&ends) });
         }
         _ => {}
     }

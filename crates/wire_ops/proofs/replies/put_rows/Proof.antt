@@ -6,15 +6,15 @@ use Rattle.wire_ops.proofs.replies.put_rows.Statement.{statement}
 use Rattle.wire_ops.proofs.replies.put_rows.Tie as tie
 
 abbrev Inv-loop : tie.InvT-loop
-Inv-loop out₀ at rows table count at₀ i₀ out at' i = (i ≤ count) × (length out ≡ length out₀)
+Inv-loop out₀ at table first rows count at₀ i₀ out at' i = (i ≤ count) × (length out ≡ length out₀)
 
 abbrev μ-loop : tie.MeasureT-loop
-μ-loop out₀ at rows table count at₀ i₀ out at' i = count - i
+μ-loop out₀ at table first rows count at₀ i₀ out at' i = count - i
 
 pub put-rows-spec : {M : Type 1} → statement M
 put-rows-spec =
     tie.close
     (tie.spec
-    Inv-loop μ-loop (λ c κs. search needs) (λ c. search needs) (λ c. search needs)
-    (λ c. search needs) (λ c κs. search needs) (λ c. search needs) (λ c. search needs)
+    Inv-loop μ-loop (λ c κs. search needs) (λ c. search needs) (λ c κs. search needs)
+    (λ c κs. search needs) (λ c κs. search needs) (λ c. search needs) (λ c. search needs)
     (λ c. search needs) (λ c. search needs) (λ c. search needs))
