@@ -1,12 +1,15 @@
-/* The answers of the C entry points to cases from standard input, each ended by an empty line: frame_read, reply (with
- * 1,024 rows, whatever it says) and row. Behind each, as `numbers=`, all that the entry point gave back, in the order
- * of its struct. The bytes are lent at either end of memory between forbidden pages. */
+/* The answers of the C entry points to cases from standard input, each ended by an empty line: frame_read, frame_write,
+ * reply (with 1,024 rows at the most), row and check. Behind each, as `numbers=`, all that the entry point gave back, in
+ * the order of its struct. All memory is lent at either end of pages between forbidden ones. */
 #define _DEFAULT_SOURCE
 #include "host.h"
 #include "lend.h"
 #include "satvrengi.h"
 
-enum { MOST_TEXT = 1 << 20, MOST_BYTES = 1 << 17 };
+enum { MOST_TEXT = 1 << 20, MOST_BYTES = MOST_LENT, MOST_BUFFER = 4096 };
+
+/* What a lent buffer holds, where the case's own text is too long to be laid in it. */
+enum { BEFORE = 165 };
 
 /* What has been read and not yet answered, ended by a zero byte. */
 static char text[MOST_TEXT + 1];
@@ -52,48 +55,131 @@ static const uint8_t *bytes(const char *at, const char *key, size_t *length, int
     return lend(read, n, at_front);
 }
 
+static void put_bytes(const uint8_t *from, size_t length)
+{
+    for (size_t i = 0; i < length; i++)
+        printf("%02X", from[i]);
+}
+
+/* A number of the case in decimal digits, and one byte in two hex digits. */
+static size_t count_of(const char *at, const char *key)
+{
+    return strtoul(value(at, key), NULL, 10);
+}
+
+static uint8_t byte_of(const char *at, const char *key)
+{
+    return (uint8_t)strtoul(value(at, key), NULL, 16);
+}
+
+static void put_refused(unsigned result, const char *key, size_t place)
+{
+    printf("result=%u\n%s=%lu\n", result, key, (unsigned long)place);
+}
+
+static void put_frame_numbers(SatvFrame frame)
+{
+    printf("numbers=%u %u %lu\n", frame.result, frame.next, (unsigned long)frame.length);
+}
+
 static void frame_read(const char *at, int at_front)
 {
     size_t length;
     const uint8_t *line = bytes(at, "line=", &length, at_front);
-    SatvFrame frame = satv_frame_read(line, length, (uint8_t)strtoul(value(at, "expected="), NULL, 16));
-    if (frame.result != 0) {
-        printf("result=%d\nplace=0\n", frame.result);
+    SatvFrame frame = satv_frame_read(line, length, byte_of(at, "expected="));
+    if (frame.result != SATV_GOOD) {
+        put_refused(frame.result, "place", 0);
     } else {
         printf("result=0\ncontent=");
-        for (size_t i = 0; i < frame.length; i++)
-            printf("%02X", line[i]);
+        put_bytes(line, frame.length);
         printf("\nnext=%02X\n", frame.next);
     }
-    printf("numbers=%d %d %lu\n", frame.result, frame.next, (unsigned long)frame.length);
+    put_frame_numbers(frame);
 }
 
-static void put_refused(unsigned result, size_t line)
+/* The buffer holds the case's own text before it is lent, as far as that is not too long. */
+static void frame_write(const char *at, size_t text_length, int at_front)
 {
-    printf("result=%u\nline=%lu\n", result, (unsigned long)line);
+    static uint8_t before[MOST_BUFFER];
+    size_t length, room = count_of(at, "buffer=");
+    const uint8_t *content = bytes(at, "content=", &length, at_front);
+    uint8_t number = byte_of(at, "number=");
+    room = room < MOST_BUFFER ? room : MOST_BUFFER;
+    memset(before, BEFORE, sizeof before);
+    if (text_length <= sizeof before)
+        memcpy(before, at, text_length);
+    uint8_t *buffer = lend_room(room, at_front);
+    memcpy(buffer, before, room);
+    SatvFrame frame = satv_frame_write(content, length, number, buffer, room);
+    if (frame.result != SATV_GOOD) {
+        put_refused(frame.result, "place", 0);
+    } else {
+        printf("result=0\nbytes=");
+        put_bytes(buffer, frame.length);
+        printf("\nhost=%02X\n", frame.next);
+    }
+    printf("lent=");
+    put_bytes(buffer, room);
+    printf(room_is_kept(room) ? "\n" : "\nwritten elsewhere\n");
+    put_frame_numbers(frame);
 }
 
-static void put_row(SatvRow row)
+static void put_row(unsigned kind, unsigned mark, size_t parent, size_t packages)
 {
-    printf("kind=%c\nmark=%04X\n", row.kind, (unsigned)row.mark);
-    printf("parent=%lu\npackages=%lu\n", (unsigned long)row.parent, (unsigned long)row.packages);
+    printf("kind=%c\nmark=%04X\n", (int)kind, mark);
+    printf("parent=%lu\npackages=%lu\n", (unsigned long)parent, (unsigned long)packages);
+}
+
+/* What every row holds before it is lent; no reply makes such a row. */
+static const uint32_t no_row[SATV_NUMBERS_A_ROW] = {'L', 999, 77, 99};
+
+static size_t rows_kept(const uint32_t *numbers)
+{
+    size_t kept = 0;
+    for (size_t i = 0; i < SATV_MOST_ROWS; i++)
+        kept += memcmp(numbers + i * SATV_NUMBERS_A_ROW, no_row, sizeof no_row) == 0;
+    return kept;
+}
+
+/* With 1,024 rows lent, the other two entry points must say the same. */
+static int others_agree(const uint8_t *lent, size_t length, SatvReply read, const uint32_t *numbers)
+{
+    SatvReply other = satv_reply_read(lent, length);
+    int agree = other.result == read.result && other.line == read.line && other.code == read.code
+        && other.used == read.used && other.rows == read.rows;
+    for (size_t i = 0; agree && i < read.rows; i++) {
+        SatvRow row = satv_reply_row(lent, length, i);
+        const uint32_t *four = numbers + i * SATV_NUMBERS_A_ROW;
+        agree = row.result == SATV_GOOD && row.line == 0 && row.kind == four[0] && row.mark == four[1]
+            && row.parent == four[2] && row.packages == four[3];
+    }
+    return agree;
 }
 
 static void reply(const char *at, int at_front)
 {
-    size_t length;
+    enum { NUMBERS = SATV_MOST_ROWS * SATV_NUMBERS_A_ROW };
+    size_t length, rows = count_of(at, "rows=");
     const uint8_t *lent = bytes(at, "bytes=", &length, at_front);
-    SatvReply read = satv_reply_read(lent, length);
-    if (read.result != 0) {
-        put_refused(read.result, read.line);
+    uint32_t *numbers = (uint32_t *)lend_room(NUMBERS * sizeof(uint32_t), at_front);
+    rows = rows < SATV_MOST_ROWS ? rows : SATV_MOST_ROWS;
+    for (size_t i = 0; i < NUMBERS; i++)
+        numbers[i] = no_row[i % SATV_NUMBERS_A_ROW];
+    SatvReply read = satv_reply_rows(lent, length, numbers, rows * SATV_NUMBERS_A_ROW);
+    if (read.result != SATV_GOOD) {
+        put_refused(read.result, "line", read.line);
     } else {
         printf("result=0\ncode=%04X\n", (unsigned)read.code);
         printf("used=%lu\nrows=%lu\n", (unsigned long)read.used, (unsigned long)read.rows);
-        for (size_t i = 0; i < read.rows; i++) {
-            printf("row=%lu\n", (unsigned long)i);
-            put_row(satv_reply_row(lent, length, i));
-        }
     }
+    for (size_t i = 0; i < read.rows; i++) {
+        const uint32_t *four = numbers + i * SATV_NUMBERS_A_ROW;
+        printf("row=%lu\n", (unsigned long)i);
+        put_row(four[0], four[1], four[2], four[3]);
+    }
+    if (rows == SATV_MOST_ROWS && !others_agree(lent, length, read, numbers))
+        printf("the entry points differ\n");
+    printf("kept=%lu\n", (unsigned long)rows_kept(numbers));
     printf("numbers=%u %lu %lu %lu %lu\n", read.result, (unsigned long)read.code, (unsigned long)read.line,
            (unsigned long)read.used, (unsigned long)read.rows);
 }
@@ -102,26 +188,48 @@ static void row(const char *at, int at_front)
 {
     size_t length;
     const uint8_t *lent = bytes(at, "bytes=", &length, at_front);
-    SatvRow read = satv_reply_row(lent, length, strtoul(value(at, "row="), NULL, 10));
-    if (read.result != 0) {
-        put_refused(read.result, read.line);
+    SatvRow read = satv_reply_row(lent, length, count_of(at, "row="));
+    if (read.result != SATV_GOOD) {
+        put_refused(read.result, "line", read.line);
     } else {
         printf("result=0\n");
-        put_row(read);
+        put_row(read.kind, read.mark, read.parent, read.packages);
     }
     printf("numbers=%u %u %lu %lu %lu %lu\n", read.result, read.kind, (unsigned long)read.mark,
            (unsigned long)read.line, (unsigned long)read.parent, (unsigned long)read.packages);
 }
 
-static void answer(const char *at, int at_front)
+static void check(const char *at, int at_front)
+{
+    size_t length;
+    const uint8_t *script = bytes(at, "script=", &length, at_front);
+    SatvVerdict verdict = satv_script_check(script, length);
+    if (verdict.result != SATV_GOOD)
+        put_refused(verdict.result, "place", verdict.line);
+    else
+        printf("result=0\n");
+    printf("numbers=%u %lu\n", verdict.result, (unsigned long)verdict.line);
+}
+
+/* Whether the case is one of this op. */
+static int is_op(const char *at, const char *name)
 {
     const char *op = value(at, "op=");
-    if (strncmp(op, "frame_read\n", 11) == 0)
+    return strncmp(op, name, strlen(name)) == 0 && op[strlen(name)] == '\n';
+}
+
+static void answer(const char *at, size_t text_length, int at_front)
+{
+    if (is_op(at, "frame_read"))
         frame_read(at, at_front);
-    else if (strncmp(op, "reply\n", 6) == 0)
+    else if (is_op(at, "frame_write"))
+        frame_write(at, text_length, at_front);
+    else if (is_op(at, "reply"))
         reply(at, at_front);
-    else if (strncmp(op, "row\n", 4) == 0)
+    else if (is_op(at, "row"))
         row(at, at_front);
+    else if (is_op(at, "check"))
+        check(at, at_front);
     else
         printf("not a case\n");
     printf("\n");
@@ -133,7 +241,7 @@ int main(void)
     for (int turn = 0;;) {
         const char *end = strstr(text + at, "\n\n");
         if (end != NULL) {
-            answer(text + at, turn++ % 2);
+            answer(text + at, (size_t)(end - (text + at)), turn++ % 2);
             at = (size_t)(end - text) + 2;
             continue;
         }

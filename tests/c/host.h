@@ -7,17 +7,23 @@
 #include <stdint.h>
 
 #if __STDC_HOSTED__
+#include <signal.h>
 #include <stdio.h>
 #include <stdlib.h>
 #include <string.h>
 #include <sys/mman.h>
 #include <unistd.h>
 #else
+#ifdef __cplusplus
+extern "C" {
+#endif
 int printf(const char *, ...);
 void perror(const char *);
-_Noreturn void exit(int);
+void exit(int) __attribute__((noreturn));
 void *memcpy(void *, const void *, size_t);
 void *memmove(void *, const void *, size_t);
+void *memset(void *, int, size_t);
+int memcmp(const void *, const void *, size_t);
 size_t strlen(const char *);
 int strncmp(const char *, const char *, size_t);
 char *strstr(const char *, const char *);
@@ -26,6 +32,25 @@ long read(int, void *, size_t);
 long sysconf(int);
 void *mmap(void *, size_t, int, int, int, long);
 int mprotect(void *, size_t, int);
+int raise(int);
+typedef struct {
+    void *ss_sp;
+    int ss_flags;
+    size_t ss_size;
+} stack_t;
+struct sigaction {
+    void (*sa_handler)(int);
+    unsigned long sa_mask[16];
+    int sa_flags;
+    void (*sa_restorer)(void);
+};
+int sigaltstack(const stack_t *, stack_t *);
+int sigaction(int, const struct sigaction *, struct sigaction *);
+#ifdef __cplusplus
+/* Without this, C++ that knows no C library gives main a name of its own. */
+int main(void);
+}
+#endif
 #define EXIT_SUCCESS 0
 #define EXIT_FAILURE 1
 #define PROT_NONE 0
@@ -34,6 +59,8 @@ int mprotect(void *, size_t, int);
 #define MAP_PRIVATE 2
 #define MAP_ANONYMOUS 32
 #define MAP_FAILED ((void *)-1)
+#define SA_ONSTACK 0x08000000
+#define SIGUSR1 10
 #define _SC_PAGESIZE 30
 #endif
 

@@ -1,3 +1,3 @@
 pub mod Lines
-pub mod Tight
 pub mod Numbers
+pub mod Tight

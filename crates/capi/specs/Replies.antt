@@ -6,8 +6,8 @@ use lib.Dec.{ltb}
 use lib.ListN.{getD}
 use Rattle.reply_line.specs.Line.{letterOf}
 use Rattle.reply.specs.declared.Row.{Row}
-use Rattle.reply.specs.Reply.{Outcome, read, refusal}
-use Rattle.reply.specs.Rows.{scriptRow, Tabled}
+use Rattle.reply.specs.Reply.{Outcome, read, refusal, outcomeOf}
+use Rattle.reply.specs.Rows.{scriptRow, rowsOf}
 use Rattle.capi.specs.declared.replies.SatvReply.{SatvReply}
 use Rattle.capi.specs.declared.replies.SatvRow.{SatvRow}
 
@@ -21,7 +21,15 @@ noRow number line = record { result = number; kind = 0; mark = 0; line = line; p
 
 unfoldable pub rowFields : Row → SatvRow
 unfolding letterOf
-rowFields r = record { result = 0; kind = letterOf (r .kind); mark = r .mark; line = 0; parent = r .parent; packages = r .packages }
+rowFields r =
+    record {
+      result = 0;
+      kind = letterOf (r .kind);
+      mark = r .mark;
+      line = 0;
+      parent = r .parent;
+      packages = r .packages;
+    }
 
 -- the reader's refusals first; 56, "no such row", last, at place 0
 unfoldable pub rowOf : Outcome → List Row → ℕ → SatvRow
@@ -29,6 +37,7 @@ unfolding rowFields
 rowOf (read code used count) rows row = cond (ltb row count) (rowFields (getD rows row scriptRow)) (noRow 56 0)
 rowOf (refusal number line) rows row = noRow number line
 
-unfoldable pub rowNumbers : Tabled → ℕ → SatvRow
-unfolding rowOf
-rowNumbers t row = rowOf (t .outcome) (t .rows) row
+-- with a table of 1,024 rows
+unfoldable pub rowNumbers : List ℕ → ℕ → SatvRow
+unfolding rowOf outcomeOf rowsOf
+rowNumbers s row = rowOf (outcomeOf 1024 s) (rowsOf 1024 s) row

@@ -1,10 +1,17 @@
-// The reply reader for C: the result of a reply, and one row of it by number, with a table of 1,024 rows.
+// The reply reader for C: the result of a reply, all its rows as numbers, and one row by its number.
 ghost use mathlib.Core.Path.{_≡_};
-ghost use Rattle.reply.specs.Rows.{readTable};
-ghost use Rattle.capi.specs.Replies.{replyNumbers, noRow, rowNumbers};
+ghost use Rattle.reply.specs.Numbers.{roomIn, numbersOf};
+ghost use Rattle.reply.specs.Reply.{meaning, outcomeOf};
+ghost use Rattle.capi.specs.Replies.{replyNumbers, noRow, rowFields, rowNumbers};
+use super::GOOD;
 use reply::Answer;
+use reply::Row;
 
-const GOOD: u16 = 0;
+// The table of a caller who lends none.
+const MOST_ROWS: usize = 1024;
+
+// Four for each of those rows.
+const NUMBERS: usize = 4096;
 
 // The number of 01 for a row that is not there.
 const NO_SUCH_ROW: u16 = 56;
@@ -28,12 +35,9 @@ pub struct SatvRow {
     pub packages: usize,
 }
 
-#[no_mangle]
-pub extern "C" fn satv_reply_read(reply: &[u8]) -> SatvReply
-    ensures { λ r. ⌜ r ≡ replyNumbers (readTable (now (reply .entry)) .outcome) ⌝ }
+fn told(answer: Answer) -> SatvReply
+    ensures { λ r. ⌜ r ≡ replyNumbers (meaning answer) ⌝ }
 {
-    let table = reply::read_table(reply);
-    let answer = table.answer;
     match answer {
         Answer::Read { code, used, rows } => SatvReply {
             result: GOOD,
@@ -55,6 +59,22 @@ pub extern "C" fn satv_reply_read(reply: &[u8]) -> SatvReply
     }
 }
 
+#[no_mangle]
+pub extern "C" fn satv_reply_read(reply: &[u8]) -> SatvReply
+    ensures { λ r. ⌜ r ≡ replyNumbers (outcomeOf 1024 (now (reply .entry))) ⌝ }
+{
+    told(reply::judge_reply(reply, MOST_ROWS))
+}
+
+// A row is four of the lent numbers: the letter of its kind, its mark, its parent row, its packages.
+#[no_mangle]
+pub extern "C" fn satv_reply_rows(reply: &[u8], numbers: &mut [u32]) -> SatvReply
+    ensures { λ r. ⌜ (r ≡ replyNumbers (outcomeOf (roomIn (now (numbers .entry))) (now (reply .entry))))
+        × (now (numbers .exit) ≡ numbersOf (now (reply .entry)) (now (numbers .entry))) ⌝ }
+{
+    told(reply::numbers::read_numbers(reply, numbers))
+}
+
 fn no_row(result: u16, line: usize) -> SatvRow
     ensures { λ r. ⌜ r ≡ noRow result line ⌝ }
 {
@@ -68,30 +88,34 @@ fn no_row(result: u16, line: usize) -> SatvRow
     }
 }
 
+fn row_told(row: Row) -> SatvRow
+    ensures { λ r. ⌜ r ≡ rowFields row ⌝ }
+{
+    let kind = row.kind;
+    let letter = reply_line::letter(kind);
+    SatvRow {
+        result: GOOD,
+        kind: letter,
+        mark: row.mark,
+        line: 0,
+        parent: row.parent,
+        packages: row.packages,
+    }
+}
+
 #[no_mangle]
 pub extern "C" fn satv_reply_row(reply: &[u8], row: usize) -> SatvRow
-    ensures { λ r. ⌜ r ≡ rowNumbers (readTable (now (reply .entry))) row ⌝ }
+    ensures { λ r. ⌜ r ≡ rowNumbers (now (reply .entry)) row ⌝ }
 {
-    let table = reply::read_table(reply);
-    let answer = table.answer;
-    match answer {
+    let mut numbers = [0u32; NUMBERS];
+    match reply::numbers::read_numbers(reply, &mut numbers) {
         Answer::Read {
             code: _,
             used: _,
             rows,
         } => {
             if row < rows {
-                let found = reply::row_of(table, row);
-                let kind = found.kind;
-                let letter = reply_line::letter(kind);
-                SatvRow {
-                    result: GOOD,
-                    kind: letter,
-                    mark: found.mark,
-                    line: 0,
-                    parent: found.parent,
-                    packages: found.packages,
-                }
+                row_told(reply::numbers::row_in(&numbers, row))
             } else {
                 no_row(NO_SUCH_ROW, 0)
             }

@@ -4,8 +4,12 @@ pub mod Turns
 pub mod Rows
 pub mod Pass
 pub mod Whole
+pub mod Listed
+pub mod Passing
+pub mod Coming
 pub mod Walk
 pub mod Tight
+pub mod Listing
 pub mod Lend
 pub mod Tabled
 pub mod Examples

@@ -36,7 +36,7 @@ use Rattle.reply.proofs.Lines.{Stands, stands, serves, goes-on, ends-he
 use Rattle.reply.proofs.Rows.{Sound, sound-step, length-after, total-after}
 use Rattle.reply.proofs.Turns.{seen-text}
 
-zero-one : _≡_ {A = ℕ} 0 1 → ⊥
+pub zero-one : _≡_ {A = ℕ} 0 1 → ⊥
 zero-one z = omega arith
 
 -- ---- rows in front of a lent table
@@ -65,7 +65,7 @@ length-over : (rows ys : List Row) → length (over rows ys) ≡ length rows + (
 unfolding over
 length-over rows ys = length-append rows (drop (length rows) ys) ∙ ap (λ (m : ℕ). length rows + m) (length-drop (length rows) ys)
 
-one-of : (rs : List Row) (i : ℕ) → getD rs i scriptRow .packages ≤ packagesOf rs
+pub one-of : (rs : List Row) (i : ℕ) → getD rs i scriptRow .packages ≤ packagesOf rs
 unfolding packagesOf
 one-of [] i = omega arith
 one-of (r ∷ rs) zero = omega arith
@@ -73,21 +73,21 @@ one-of (r ∷ rs) (suc i) = omega (arith, one-of rs i)
 
 -- ---- one turn on a line that goes on
 
-clamped : (n p : ℕ) → p < n → clamp n p ≡ p
+pub clamped : (n p : ℕ) → p < n → clamp n p ≡ p
 clamped n p h = rw (lt-ltb p n h) refl
 
-more-by-one : (m : ℕ) → m < 65536 → oneMore m ≡ m + 1
+pub more-by-one : (m : ℕ) → m < 65536 → oneMore m ≡ m + 1
 unfolding oneMore
 more-by-one m h = rw (lt-ltb m 65536 h) refl
 
-is-raised : (r : Row) → r .packages < 65536 → raisedRow r ≡ raised r
+pub is-raised : (r : Row) → r .packages < 65536 → raisedRow r ≡ raised r
 unfolding raisedRow
 is-raised r h = ap (λ (m : ℕ). record { kind = r .kind; mark = r .mark; parent = r .parent; packages = m }) (more-by-one (r .packages) h)
 
-not-on : (r : Refusal) → Move.Refused r ≡ Move.On → ⊥
+pub not-on : (r : Refusal) → Move.Refused r ≡ Move.On → ⊥
 not-on r e = zero-one (let z : _≡_ {A = ℕ} 0 1 = cc in z)
 
-abbrev placeFor : ℕ → ℕ → Line → ℕ → ℕ
+abbrev pub placeFor : ℕ → ℕ → Line → ℕ → ℕ
 placeFor n m l at = clamp n (placeBy l at m)
 
 abbrev changeFor : ℕ → ℕ → Line → ℕ → List Row → Change
@@ -300,11 +300,42 @@ pub record Going (s : List ℕ) (j pos : ℕ) (o : Open) (at : ℕ) (rows ys : L
   pub few : length rows + packagesOf rows ≤ pos
   pub good : verdictFrom (length ys) j pos o (lines (drop pos s)) ≡ Answer.Read c end r
 
-clash : (m : Move) → m ≡ Move.On → (r : Refusal) → m ≡ Move.Refused r → ⊥
+pub clash : (m : Move) → m ≡ Move.On → (r : Refusal) → m ≡ Move.Refused r → ⊥
 clash m p r q = not-on r (sym q ∙ p)
 
-clash-end : (m : Move) (v : ℕ) → m ≡ Move.Ends v → (r : Refusal) → m ≡ Move.Refused r → ⊥
+pub clash-end : (m : Move) (v : ℕ) → m ≡ Move.Ends v → (r : Refusal) → m ≡ Move.Refused r → ⊥
 clash-end m v p r q = zero-one (let z : _≡_ {A = ℕ} 0 1 = cc in z)
+
+-- after a line that goes on, the same holds at the next
+pub going-on : (s : List ℕ) (j pos : ℕ) (o : Open) (at : ℕ) (rows ys : List Row) (end c r b e x : ℕ)
+    (t : NextLine.Text b e x ≡ nextLine s pos)
+    → length s ≤ 65536
+    → step (length ys) (ln s (length ys) j pos b e x o at rows t) o .to ≡ Move.On
+    → verdictFrom (length ys) (j + 1) x (step (length ys) (ln s (length ys) j pos b e x o at rows t) o .state)
+    (lines (drop x s)) ≡ Answer.Read c end r
+    → Going s j pos o at rows ys end c r
+    → Going s (j + 1) x (step (length ys) (ln s (length ys) j pos b e x o at rows t) o .state)
+    (insideAfter (ln s (length ys) j pos b e x o at rows t) at rows)
+    (rowsAfter (ln s (length ys) j pos b e x o at rows t) at rows) ys end c r
+going-on s j pos o at rows ys end c r b e x t short m good g =
+    let l : Line = lineAt (length ys) j (take (e - b) (drop b s)) in
+    let p : Stands s pos b e x = stands s pos b e x t in
+    let k : Made l at rows ys = made l o at rows ys (g .sound) (g .fit) (omega (arith, g .few, p .end, p .more)) m in
+    record {
+      sound = sound-step (length ys) l o at rows m (g .sound);
+      fit = still-fit l at rows ys (g .fit) k;
+      few = omega (
+        arith,
+        g .few,
+        p .end,
+        p .next,
+        length-after l at rows,
+        total-after l at rows
+            (g .sound .inside),
+        at-most-one l,
+      );
+      good = good;
+    }
 
 pub bridge : (f : ℕ) (s : List ℕ) (j pos : ℕ) (o : Open) (at : ℕ) (rows ys : List Row) (a : Answer) (end c r : ℕ)
     → 2 ≤ j → length s ≤ 65536 → end ≤ pos + f → Going s j pos o at rows ys end c r → Bridged f s j pos o at rows ys a end
@@ -328,12 +359,9 @@ bridge (suc f) s j pos o at rows ys a end c r h₂ short enough g =
         let k : Made l at rows ys = made l o at rows ys (g .sound) (g .fit) (omega (arith, g .few, p .end, p .more)) m in
         turn-by f s (length ys) end a pos at (length rows) (over rows ys) l x left (seen-here s (length ys) j pos b e x o at rows t end h₂ (clash (step (length ys) l o .to) m))
         ∙ (λ i. tableFrom f s (length ys) (later s end a x (k .inside i) (k .count i)) (k .table i))
-        ∙ ih x (step (length ys) l o .state) (insideAfter l at rows) (rowsAfter l at rows) (omega (arith, p .end, p .next)) (record {
-          sound = sound-step (length ys) l o at rows m (g .sound);
-          fit = still-fit l at rows ys (g .fit) k;
-          few = omega (arith, g .few, p .end, p .next, length-after l at rows, total-after l at rows (g .sound .inside), at-most-one l);
-          good = good;
-        })
+        ∙ ih x (step (length ys) l o .state) (insideAfter l at rows) (rowsAfter l at rows)
+        (omega (arith, p .end, p .next))
+        (going-on s j pos o at rows ys end c r b e x t short m good g)
         ∙ sym (ap (λ (z : List Row). over z ys) (rows-on s (length ys) j pos b e x o at rows t m))
     by-lead (ends b e x v t m last) ih =
         let l : Line = lineAt (length ys) j (take (e - b) (drop b s)) in

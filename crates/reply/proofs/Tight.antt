@@ -16,6 +16,7 @@ use Rattle.reply.specs.declared.Row.{Row}
 use Rattle.reply.specs.Reply.{meaning, outcomeOf}
 use Rattle.reply.specs.declared.Table.{Table}
 use Rattle.reply.specs.Rows.{scriptRow, tableOf, Tabled, tableMeaning, readTable}
+use Rattle.reply.specs.Numbers.{roomIn, numbersOf, rowIn}
 use denote.Ref.{RefT}
 use Rattle.reply.specs.declared.LineReader.{LineReader}
 use Rattle.reply.specs.Code.{nextLine, placeAfter}
@@ -61,6 +62,10 @@ meaning-injective (Answer.Refused w k) (Answer.Refused w′ k′) e =
     let q : k ≡ k′ = cc in
     ap₂ Answer.Refused (number-injective w w′ p) q
 
+pub only-judge-reply : (s : List ℕ) (n : ℕ) (a b : Answer) → meaning a ≡ outcomeOf n s
+    → meaning b ≡ outcomeOf n s → a ≡ b
+only-judge-reply s n a b p q = meaning-injective a b (p ∙ sym q)
+
 pub only-read-reply : (s : List ℕ) (ys : List Row) (a b : Answer) (left right : List Row)
     → (meaning a ≡ outcomeOf (length ys) s) × (left ≡ tableOf s ys) → (meaning b ≡ outcomeOf (length ys) s) × (right ≡ tableOf s ys) → (a ≡ b) × (left ≡ right)
 only-read-reply s ys a b left right p q = (meaning-injective a b (p .0 ∙ sym (q .0)), p .1 ∙ sym (q .1))
@@ -75,6 +80,16 @@ only-read-table s a b p q =
 
 pub only-row-of : (t : Table) (at : ℕ) (a b : Row) → a ≡ getD (t .rows) at scriptRow → b ≡ getD (t .rows) at scriptRow → a ≡ b
 only-row-of t at a b p q = p ∙ sym q
+
+-- the answer, and all the lent numbers
+pub only-read-numbers : (s lent : List ℕ) (a b : Answer) (left right : List ℕ)
+    → (meaning a ≡ outcomeOf (roomIn lent) s) × (left ≡ numbersOf s lent)
+    → (meaning b ≡ outcomeOf (roomIn lent) s) × (right ≡ numbersOf s lent)
+    → (a ≡ b) × (left ≡ right)
+only-read-numbers s lent a b left right p q = (meaning-injective a b (p .0 ∙ sym (q .0)), p .1 ∙ sym (q .1))
+
+pub only-row-in : (lent : List ℕ) (at : ℕ) (a b : Row) → a ≡ rowIn lent at → b ≡ rowIn lent at → a ≡ b
+only-row-in lent at a b p q = p ∙ sym q
 
 -- a reader is its reply and its place
 pub only-lines-of : (s : RefT (List ℕ)) (a b : LineReader) → (a .reply ≡ s) × (a .at ≡ 0) → (b .reply ≡ s) × (b .at ≡ 0) → a ≡ b

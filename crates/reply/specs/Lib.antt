@@ -2,3 +2,4 @@ pub mod Reply
 pub mod Rows
 pub mod Code
 pub mod Table
+pub mod Numbers

@@ -11,6 +11,8 @@ use reply_line::Kind;
 use reply_line::Line;
 use reply_line::Refusal;
 
+pub mod numbers;
+
 // The longest reply.
 const MOST_BYTES: usize = 65536;
 
@@ -212,6 +214,13 @@ fn judge(reply: &[u8], n: usize) -> Answer
         k += 1;
     }
     Answer::Refused(Refusal::NoEnding, k)
+}
+
+// The verdict on a whole reply, for a table of n rows that nobody need lend.
+pub fn judge_reply(reply: &[u8], n: usize) -> Answer
+    ensures { λ r. ⌜ meaning r ≡ outcomeOf n (now (reply .entry)) ⌝ }
+{
+    judge(reply, n)
 }
 
 // A line of a reply that is known to be good, and where the next one starts.

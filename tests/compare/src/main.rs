@@ -5,7 +5,7 @@ use std::panic::{catch_unwind, resume_unwind, AssertUnwindSafe};
 use std::process::exit;
 use std::time::Instant;
 
-use compare::called::{as_from_c, is_called};
+use compare::called::{asked_in_c, is_called};
 use compare::examples;
 use compare::judge::{asked, Hits};
 use compare::programs;
@@ -38,12 +38,12 @@ struct Sort {
 
 const SORTS: &[Sort] = &[
     Sort { name: "frame_read", count: 60_000, slow: 1, make: seeded::frame_read, called: true },
-    Sort { name: "frame_write", count: 40_000, slow: 1, make: seeded::frame_write, called: false },
+    Sort { name: "frame_write", count: 40_000, slow: 1, make: seeded::frame_write, called: true },
     Sort { name: "package", count: 50_000, slow: 1, make: seeded::package, called: false },
     Sort { name: "reply", count: 50_000, slow: 1, make: seeded::reply, called: true },
     Sort { name: "row", count: 10_000, slow: 1, make: seeded::row, called: true },
     Sort { name: "load", count: 100_000, slow: 1, make: seeded::load, called: false },
-    Sort { name: "check", count: 100_000, slow: 2, make: seeded::check, called: false },
+    Sort { name: "check", count: 100_000, slow: 2, make: seeded::check, called: true },
     Sort { name: "check_table", count: 20_000, slow: 1, make: seeded::check_table, called: false },
     Sort { name: "run", count: 50_000, slow: 4, make: seeded::run, called: false },
     Sort { name: "run_table", count: 20_000, slow: 1, make: seeded::run_table, called: false },
@@ -246,7 +246,7 @@ fn named_cases() -> usize {
     for whom in &in_c() {
         let mut batch = Batch::of(&**whom);
         for example in examples.iter().filter(|example| is_called(&example.case)) {
-            batch.take(vec![as_from_c(&example.case)], None);
+            batch.take(asked_in_c(&example.case), None);
         }
         different.extend(batch.end());
     }
@@ -279,9 +279,9 @@ fn seeded_cases(extent: Extent, seed: u64) -> usize {
     failed + seldom(&hits)
 }
 
-/// A case as the C entry points are asked; none follows from it.
+/// What the C entry points are asked for a case.
 fn from_c_alone(case: &Case, _: &mut Hits) -> Vec<Case> {
-    vec![as_from_c(case)]
+    asked_in_c(case)
 }
 
 /// Asks one of the seeded cases, and what follows from it, once more; shows all, and says how many answers differ.
@@ -291,7 +291,7 @@ fn ask_again(name: &str, number: u64, seed: u64) -> usize {
     let case = (sort.make)(&mut Seed::of(seed, place as u64, number));
     let mut failed = show_all(&Program::of_library(), asked(&case, &mut Hits::default()));
     for whom in in_c().iter().filter(|_| sort.called) {
-        failed += show_all(&**whom, vec![as_from_c(&case)]);
+        failed += show_all(&**whom, asked_in_c(&case));
     }
     failed
 }

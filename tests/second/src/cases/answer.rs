@@ -128,7 +128,7 @@ fn write_lines(bytes: &[u8]) -> String {
 }
 
 /// What a lent buffer holds before it is lent: the case's own text, so that hardly a byte is like the next.
-fn lent_before(case: &Case, length: usize) -> Vec<u8> {
+pub fn lent_before(case: &Case, length: usize) -> Vec<u8> {
     let mut lent = vec![BEFORE; MOST_LENT];
     let text = write_case(case);
     let text = text.trim_end().as_bytes();

@@ -7,7 +7,7 @@ mod answer;
 mod read;
 mod write;
 
-pub use answer::{answer, as_asked, listing};
+pub use answer::{answer, as_asked, lent_before, listing};
 pub use read::read_case;
 pub use write::write_case;
 

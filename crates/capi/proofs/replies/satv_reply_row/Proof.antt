@@ -1,25 +1,31 @@
-use Rattle.capi.proofs.Numbers.{is-row, is-no-row, is-row-refused}
+use Rattle.capi.proofs.Numbers.{zeros, room-for-rows, is-row, is-no-row, is-row-refused}
 use borrow.Author.Needs.{needs}
 use Rattle.capi.proofs.replies.satv_reply_row.Statement.{statement}
 use Rattle.capi.proofs.replies.satv_reply_row.Tie as tie
 
-read-table-requires : tie.Need-read-table-requires
-read-table-requires c κs = search needs
+slice-aggregate-read-numbers : tie.Need-slice-aggregate-read-numbers
+slice-aggregate-read-numbers c = search needs
 
-enum-known-answer : tie.Need-enum-known-answer
-enum-known-answer c = search needs
+read-numbers-requires : tie.Need-read-numbers-requires
+read-numbers-requires c κs = search needs
 
-row-of-requires : tie.Need-row-of-requires
-row-of-requires c κs = search needs
+enum-known-rows : tie.Need-enum-known-rows
+enum-known-rows c = search needs
 
-letter-requires : tie.Need-letter-requires
-letter-requires c κs = search needs
+slice-aggregate-row-in : tie.Need-slice-aggregate-row-in
+slice-aggregate-row-in c = search needs
+
+row-in-requires : tie.Need-row-in-requires
+row-in-requires c κs = search needs
+
+row-told-requires : tie.Need-row-told-requires
+row-told-requires c κs = search needs
 
 no-row-requires : tie.Need-no-row-requires
 no-row-requires c κs = search needs
 
-enum-known-answer-2 : tie.Need-enum-known-answer-2
-enum-known-answer-2 c = search needs
+enum-known-why : tie.Need-enum-known-why
+enum-known-why c = search needs
 
 number-requires : tie.Need-number-requires
 number-requires c κs = search needs
@@ -28,17 +34,31 @@ no-row-requires-2 : tie.Need-no-row-requires-2
 no-row-requires-2 c κs = search needs
 
 returns : tie.Need-returns
-returns c = is-row _ _ (c .before .before .before .before .before .before .read-table .ensures) _ _ _ (c .before .before .before .before .before .before .before .before .args .row) _ _ (c .before .before .before .before .answer .given .1) (c .before .before .if1 .taken) (c .before .row-of .ensures) (c .letter .ensures)
+returns c =
+    let known = c .before .before .before .before .before in
+    let read = known .before .before .before in
+    is-row _ zeros _ _ _ room-for-rows (read .read-numbers .ensures .0) _ _ _ _ _ (known .rows .given .1)
+    (c .before .before .before .if1 .taken) (read .read-numbers .ensures .1) (c .before .row-in .ensures)
+    (c .row-told .ensures)
 
 returns-2 : tie.Need-returns-2
-returns-2 c = is-no-row _ _ (c .before .before .before .before .before .read-table .ensures) _ _ _ (c .before .before .before .before .before .before .before .args .row) _ (c .before .before .before .answer .given .1) (c .before .if1 .left) (c .no-row .ensures)
+returns-2 c =
+    let known = c .before .before .before in
+    let read = known .before .before .before in
+    is-no-row _ zeros _ _ _ room-for-rows (read .read-numbers .ensures .0) _ _ _ (known .rows .given .1)
+    (c .before .if1 .left) (c .no-row .ensures)
 
 returns-3 : tie.Need-returns-3
-returns-3 c = is-row-refused _ _ (c .before .before .before .before .before .read-table .ensures) _ _ _ (c .before .before .before .before .before .before .before .args .row) _ (c .before .before .before .answer2 .given .1) (c .before .number .ensures) (c .no-row2 .ensures)
+returns-3 c =
+    let known = c .before .before .before in
+    let read = known .before .before .before in
+    is-row-refused _ zeros _ _ _ room-for-rows (read .read-numbers .ensures .0) _ _ _ (known .why .given .1)
+    (c .before .number .ensures) (c .no-row2 .ensures)
 
 pub satv-reply-row-spec : {M : Type 1} → statement M
 satv-reply-row-spec =
     tie.close
     (tie.spec
-    read-table-requires enum-known-answer row-of-requires letter-requires no-row-requires
-    enum-known-answer-2 number-requires no-row-requires-2 returns returns-2 returns-3)
+    slice-aggregate-read-numbers read-numbers-requires enum-known-rows slice-aggregate-row-in row-in-requires
+    row-told-requires no-row-requires enum-known-why number-requires no-row-requires-2 returns returns-2
+    returns-3)

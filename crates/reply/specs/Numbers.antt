@@ -1,0 +1,86 @@
+-- 01, Packages and replies: the rows as numbers, four a row, for a caller who lends numbers and no rows. "Rows past
+-- the last are unchanged". Assumes nothing.
+use mathlib.Core.Bool.{cond}
+use mathlib.Core.List.{List, [], _∷_, _++_}
+use Prim.Native.Nat.{ℕ, zero, suc, _+_, _*_, _/_, _%_}
+use lib.Dec.{eqb, ltb}
+use lib.ListN.{length, getD}
+use Rattle.text.specs.Put.{put}
+use Rattle.reply_line.specs.declared.Kind.{Kind}
+use Rattle.reply_line.specs.declared.Kind.the-variants as Kind
+use Rattle.reply_line.specs.Line.{letterOf}
+use Rattle.reply.specs.declared.Answer.{Answer}
+use Rattle.reply.specs.declared.Answer.the-variants as Answer
+use Rattle.reply.specs.declared.Row.{Row}
+use Rattle.reply.specs.declared.Stand.{Stand}
+use Rattle.reply.specs.declared.Turn.{Turn}
+use Rattle.reply.specs.Reply.{verdict}
+use Rattle.reply.specs.Rows.{scriptRow, rowsOf}
+use Rattle.reply.specs.Table.{startIn, placeIn, turned}
+
+-- a row's numbers: the letter of its kind, its code, its parent row, its packages
+unfoldable pub fourOf : Row → List ℕ
+fourOf r = letterOf (r .kind) ∷ r .mark ∷ r .parent ∷ r .packages ∷ []
+
+unfoldable pub listed : List Row → List ℕ
+unfolding fourOf
+listed [] = []
+listed (r ∷ rows) = fourOf r ++ listed rows
+
+-- so many rows have room in the lent numbers
+abbrev pub roomIn : List ℕ → ℕ
+roomIn lent = length lent / 4
+
+-- what becomes of the lent numbers: read, the rows' in front and the others as they were; refused, all as they were
+unfoldable pub numbersAfter : Answer → List Row → List ℕ → List ℕ
+unfolding listed
+numbersAfter (Answer.Read code used count) rows lent = put lent 0 (listed rows)
+numbersAfter (Answer.Refused why line) rows lent = lent
+
+unfoldable pub numbersOf : List ℕ → List ℕ → List ℕ
+unfolding numbersAfter verdict rowsOf
+numbersOf s lent = numbersAfter (verdict (roomIn lent) s) (rowsOf (roomIn lent) s) lent
+
+-- ---- the code's own shapes: a row read back from its numbers, put among them, and the second pass turn by turn
+
+unfoldable pub kindOf : ℕ → Kind
+unfolding letterOf
+kindOf letter =
+    cond (eqb letter (letterOf Kind.Measuring)) Kind.Measuring
+    (cond (eqb letter (letterOf Kind.Plain)) Kind.Plain Kind.Script)
+
+unfoldable pub rowAt : List ℕ → ℕ → Row
+unfolding kindOf
+rowAt lent at =
+    record {
+      kind = kindOf (getD lent (at * 4) 0);
+      mark = getD lent (at * 4 + 1) 0;
+      parent = getD lent (at * 4 + 2) 0;
+      packages = getD lent (at * 4 + 3) 0;
+    }
+
+-- where there is no such place, the script's empty row
+unfoldable pub rowIn : List ℕ → ℕ → Row
+unfolding rowAt
+rowIn lent at = cond (ltb at (roomIn lent)) (rowAt lent at) scriptRow
+
+-- a count in 32 bits
+abbrev pub low : ℕ → ℕ
+low n = n % 4294967296
+
+unfoldable pub cutRow : Row → List ℕ
+cutRow r = letterOf (r .kind) ∷ r .mark ∷ low (r .parent) ∷ low (r .packages) ∷ []
+
+unfoldable pub putRow : List ℕ → ℕ → Row → List ℕ
+unfolding cutRow
+putRow lent at r = put lent (at * 4) (cutRow r)
+
+abbrev pub turnIn : List ℕ → ℕ → Stand → List ℕ → Turn
+turnIn s n st lent = turned s st (rowIn lent (placeIn st n))
+
+-- the numbers after at most so many turns
+unfoldable pub numbersFrom : ℕ → List ℕ → ℕ → Stand → List ℕ → List ℕ
+numbersFrom zero s n st lent = lent
+numbersFrom (suc f) s n st lent =
+    cond (ltb (st .pos) (st .end))
+    (numbersFrom f s n (turnIn s n st lent .next) (putRow lent (placeIn st n) (turnIn s n st lent .row))) lent
