@@ -16,9 +16,9 @@
 #include <stdint.h>
 
 #define SATV_VERSION_MAJOR 1
-#define SATV_VERSION_MINOR 1
+#define SATV_VERSION_MINOR 0
 #define SATV_VERSION_PATCH 0
-/* One number that grows from version to version: 1.1.0 is 10100. */
+/* One number that grows from version to version: 1.2.3 is 10203. */
 #define SATV_VERSION (SATV_VERSION_MAJOR * 10000 + SATV_VERSION_MINOR * 100 + SATV_VERSION_PATCH)
 
 /* The longest content of a frame, the longest reply and the longest script, in bytes. */

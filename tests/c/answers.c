@@ -239,6 +239,9 @@ int main(void)
 {
     size_t at = 0;
     for (int turn = 0;;) {
+        /* An empty line before a case is none. */
+        while (text[at] == '\n')
+            at++;
         const char *end = strstr(text + at, "\n\n");
         if (end != NULL) {
             answer(text + at, (size_t)(end - (text + at)), turn++ % 2);
