@@ -171,6 +171,11 @@ fn controls() -> Vec<Example> {
         runs(&eight, &[["."; 8].join(" "), "Z. .".into()].join(" "), "L L L L L L L L finished,+,+,+,+,+,+,+,+ finished"),
         runs(&format!("{SWEEP}|meas_loop_lsv a b 1 1 1 1|endloop|endloop"), ". . p1,1 Yd . . d", "- - M0000 M0000,* - waiting *"),
         runs(&format!("loop 1 == 1|{SWEEP}|endloop|endloop"), ". . . p1,1 Z. . .", "L - - M0000 * finished,+ finished"),
+        // A control is kept by the step that ends the run.
+        runs(&format!("{SWEEP}|pck_end|endloop"), ". . p1,2 Z.", "- - M0000 fault:64"),
+        runs(&format!("{SWEEP}|wait 1i|endloop"), ". . p1,2 Yf1", "- - M0000 fault:61"),
+        runs(&format!("{SWEEP}|div_var a 0|endloop"), ". . p1,2 Y. .", "- - M0000 stopped:0028 stopped:0028"),
+        runs(&format!("{SWEEP}|meas 1 a ba|endloop"), ". . p1,2 Zfinf", "- - M0000 stopped:0010"),
     ];
     let nested = format!("{SWEEP}|endloop|if 1 == 1|loop 1 == 1|{}|pck_start|pck_add a|pck_end|breakloop|endloop|breakloop|endloop|endif|on_finished:|cell_off", &SWEEP[12..]);
     let calm = ". . p1,1 . d . . p1,2 . . . . . . . . . .";

@@ -345,3 +345,38 @@ pub(super) fn hex(bytes: &[u8]) -> String {
     }
     text
 }
+
+#[cfg(test)]
+mod tests {
+    use super::super::read_case;
+    use super::*;
+
+    /// What is kept by the last of these steps, in a sweep whose names hold 1 and 2 and whose body has one item.
+    fn kept(item: &str, told: &str) -> String {
+        let zeros = ["f0000000000000000"; 4].join(" ");
+        let table = format!("names=2\nend=9\nitems=3\nitem=1 meas_loop_lsv v0 v1 {zeros}\nitem=2 {item}\n");
+        let point = "3FF0000000000000 4000000000000000";
+        let state = "state=0 boxes=- abort=0 skip=0 package=0 values=-\nended=-\nsteps=2\n";
+        let case = format!("op=run_table\nlength=0\n{table}item=3 endloop\n{state}do=none point {point}\ndo={told}\n");
+        let answer = answer(&read_case(&case).expect("a case"));
+        answer.lines().find_map(|line| line.strip_prefix("keeps=")).expect("an ended run").into()
+    }
+
+    const NAMES: &str = "values=0:f3FF0000000000000:6461,1:f4000000000000000:6261";
+
+    #[test]
+    fn a_stop_changes_no_name() {
+        let stopped = format!("1 boxes=0 abort=0 skip=0 package=0 {NAMES} status=stopped:0010");
+        assert_eq!(kept("meas f0000000000000000 v0 t0000", "none float 7FF0000000000000"), stopped);
+        let divided = format!("1 boxes=0 abort=0 skip=1 package=0 {NAMES} status=stopped:0028");
+        assert_eq!(kept("div_var v0 f0000000000000000", "Y nothing"), divided);
+    }
+
+    #[test]
+    fn a_fault_keeps_the_control() {
+        let fault = format!("1 boxes=0 abort=1 skip=0 package=0 {NAMES} status=fault:64");
+        assert_eq!(kept("pck_end", "Z nothing"), fault);
+        let fault = format!("1 boxes=0 abort=0 skip=1 package=0 {NAMES} status=fault:61");
+        assert_eq!(kept("wait i1", "Y float 0000000000000000"), fault);
+    }
+}
