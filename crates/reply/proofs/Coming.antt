@@ -1,7 +1,7 @@
 -- What holds at each turn of the pass over lent numbers: what is still to come of it is the whole. Assumes nothing.
 use mathlib.Core.Path.{_≡_, refl, sym, _∙_, ap, subst}
 use mathlib.Core.List.{List}
-use Prim.Native.Nat.{ℕ, zero, suc, _+_, _-_, _*_, _/_, _<_, _≤_}
+use Prim.Native.Nat.{ℕ, zero, suc, _+_, _-_, _*_, _<_, _≤_}
 use native.Mathlib.Omega.{arith}
 use lib.ListN.{length}
 use Rattle.text.proofs.Put.{length-put}
@@ -15,7 +15,6 @@ use Rattle.reply.specs.Table.{standing, startIn, placeIn, turned}
 use Rattle.reply.specs.Numbers.{roomIn, numbersOf, rowIn, cutRow, putRow, numbersFrom}
 use Rattle.reply.proofs.Turns.{place-below, ahead}
 use Rattle.reply.proofs.Whole.{has-rows}
-use Rattle.reply.proofs.Listed.{four-fit}
 use Rattle.reply.proofs.Passing.{one-turn, no-turn, numbers-are}
 
 pub record Come (s lent : List ℕ) (n : ℕ) (st : Stand) (numbers : List ℕ) : Type 0 where

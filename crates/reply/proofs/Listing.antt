@@ -7,7 +7,6 @@ use lib.ListN.{length, getD}
 use Rattle.text.specs.Put.{put}
 use Rattle.reply.specs.declared.Answer.{Answer}
 use Rattle.reply.specs.declared.Answer.the-variants as Answer
-use Rattle.reply.specs.declared.Row.{Row}
 use Rattle.reply.specs.Reply.{verdict, meaning, outcomeOf}
 use Rattle.reply.specs.Rows.{scriptRow, rowsOf}
 use Rattle.reply.specs.Numbers.{listed, roomIn, numbersAfter, numbersOf, rowIn}

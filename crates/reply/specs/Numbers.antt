@@ -16,7 +16,7 @@ use Rattle.reply.specs.declared.Stand.{Stand}
 use Rattle.reply.specs.declared.Turn.{Turn}
 use Rattle.reply.specs.Reply.{verdict}
 use Rattle.reply.specs.Rows.{scriptRow, rowsOf}
-use Rattle.reply.specs.Table.{startIn, placeIn, turned}
+use Rattle.reply.specs.Table.{placeIn, turned}
 
 -- a row's numbers: the letter of its kind, its code, its parent row, its packages
 unfoldable pub fourOf : Row → List ℕ

@@ -1,6 +1,3 @@
-use mathlib.Core.Path.{ap}
-use Prim.Native.Nat.{ℕ}
-use Rattle.capi.specs.Frames.{badFrame}
 use borrow.Author.Needs.{needs}
 use Rattle.capi.proofs.frames.refused.Statement.{statement}
 use Rattle.capi.proofs.frames.refused.Tie as tie

@@ -1,5 +1,4 @@
 use Prim.Native.Nat.{_-_}
-use lib.ListN.{length}
 use borrow.Author.Needs.{needs}
 use Rattle.reply.proofs.Listed.{four-fit}
 use Rattle.reply.proofs.Coming.{Come, come-first, row-fits, come-less, come-on, come-end}
