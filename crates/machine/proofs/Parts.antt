@@ -11,7 +11,8 @@ use Rattle.state.specs.Meaning.{runOf, Neat}
 use Rattle.machine.specs.Words.{Control, Offer, State}
 use Rattle.machine.specs.Machine.{step}
 use Rattle.machine.specs.Course.{Course, andThen, runFrom, allStay, restingAll, courseOf, Comes}
-use Rattle.machine.specs.Parts.{followed, InParts, Chains, Call, Called, stepsOfAll, courseOfAll, lastOfAll, AllChain}
+use Rattle.machine.specs.Parts.{followed, InParts, Chains, AllChain}
+use Rattle.machine.specs.Parts.{Call, Called, stepsOfAll, courseOfAll, lastOfAll}
 use Rattle.machine.proofs.Shapes.{and-l, and-r}
 use Rattle.machine.proofs.Answers.{never}
 use Rattle.machine.proofs.Resting.{Alike, alike-neat, all-alike, comes-by}
@@ -73,7 +74,8 @@ module _ {size : ℕ} {t : Script} {m n k : State} {ps qs : List (Control × Off
       let a = and-l first-stays then-stays q in
       then-alike (as-before a ∙ and-r first-stays then-stays q) .row ∙ first-alike a .row
 
-  cleared : (a b : Bool) → first-stays ≡ a → allStay (runOf n .status) (d .answers) ≡ b → (first-stays && then-stays) ≡ false → Neat k
+  cleared : (a b : Bool) → first-stays ≡ a → allStay (runOf n .status) (d .answers) ≡ b
+      → (first-stays && then-stays) ≡ false → Neat k
   cleared a false p q z = f .neat q
   cleared false true p q z = alike-neat k n (then-alike q) (e .neat p)
   cleared true true p q z = never (first-stays && then-stays) (rw (p, sym (as-before p) ∙ q)) z

@@ -81,7 +81,8 @@ module _ (size : ℕ) (script : Script) (state : State) (c : Control) (o : Offer
 
 -- ---- steps one after the other
 
-pub all-alike : (xs : List Item) (m : State) (ps : List (Control × Offer)) (l : List rules.Answer) → Alike (restingAll xs m ps l) m
+pub all-alike : (xs : List Item) (m : State) (ps : List (Control × Offer)) (l : List rules.Answer)
+    → Alike (restingAll xs m ps l) m
 all-alike xs m [] l = same m
 all-alike xs m (p ∷ ps) [] = same m
 all-alike xs m (p ∷ ps) (a ∷ l) =
@@ -107,7 +108,8 @@ module _ (size : ℕ) (t : Script) where
       step-rests size t (runOf m) (p .0) (p .1) (and-l (stays k (s .answer)) (allStay k l) q) .1
       ∙ sym (resting-run (itemsOf t) m (p .0) (s .answer)) in
       let on : Resting (runOf n) n k ps =
-      subst (λ (z : rules.Status). Resting (runOf n) n z ps) (resting-alike (itemsOf t) m (p .0) (s .answer) .stood) (all-rest n ps) in
+      subst (λ (z : rules.Status). Resting (runOf n) n z ps)
+      (resting-alike (itemsOf t) m (p .0) (s .answer) .stood) (all-rest n ps) in
       subst (λ (x : Run). Resting x n k ps) (sym came) on (and-r (stays k (s .answer)) (allStay k l) q)
 
   -- where the row of boxes is as it was, so is the whole state

@@ -1,5 +1,5 @@
--- A run in parts: steps taken in one go are the same steps taken in two, the second from where the first came to; and so however often `run` is
--- called, each time from the state that it handed back before.
+-- A run in parts: steps taken in one go are the same steps taken in two, the second from where the first came to; and
+-- so however often `run` is called, each time from the state that it handed back before.
 use Prim.Native.Nat.{ℕ}
 use mathlib.Core.Path.{_≡_}
 use mathlib.Core.List.{List, [], _∷_, _++_}

@@ -4,6 +4,7 @@ use state::Answer;
 use state::Cell;
 use state::Control;
 use state::Fault;
+use state::LoopSort;
 use state::Meets;
 use state::Offer;
 use state::Order;
@@ -24,7 +25,6 @@ use table::Item;
 use table::Operand;
 use table::Pack;
 use table::Script;
-use table::Sort;
 use table::Sweep;
 use table::Want;
 use table::Wants;
@@ -39,7 +39,7 @@ ghost use lib.Dec.{leb};
 ghost use lib.ListN.{set, length, take, drop};
 ghost use Rattle.table.specs.Item.{isOpen, isTag, isLoop, isSweep, opensA, sortOf};
 ghost use Rattle.value.specs.Arithmetic.{calculated};
-ghost use Rattle.table.specs.declared.Sort.the-variants.{Loop as loopBox};
+ghost use Rattle.state.specs.declared.LoopSort.the-variants.{Loop as aLoop};
 ghost use Rattle.table.specs.declared.Operand.the-variants.{Name as name};
 ghost use Rattle.table.specs.declared.Item.the-variants.{Open as opens, Branch as branch};
 ghost use Rattle.table.specs.declared.Head.the-variants.{If as if'};
@@ -176,10 +176,10 @@ fn leave_one(marks: Marks, h: Handed, p: usize) -> Handed
     ensures { λ r. ⌜ (r .count ≤ h .count + 1) × Seen (marks .at) (λ xs. handedOf r ≡ handedOf h ++ leaveOuts xs (p ∷ [])) ⌝ }
 {
     if mates::sweep_at(marks, p) {
-        return add_thing(h, What::Leave(Sort::Sweep));
+        return add_thing(h, What::Leave(LoopSort::Sweep));
     }
     if mates::loop_at(marks, p) {
-        return add_thing(h, What::Leave(Sort::Loop));
+        return add_thing(h, What::Leave(LoopSort::Loop));
     }
     h
 }
@@ -584,7 +584,7 @@ fn handing(m: State, a: Answer, h: Handed) -> Stepped
 }
 
 // Into a loop: its mark where it is entered first.
-fn enter_loop(m: State, s: Sort) -> Stepped
+fn enter_loop(m: State, s: LoopSort) -> Stepped
     requires { ⌜ Stands (runOf m) × (ninth (runOf m) true ≡ false) ⌝ }
     ensures { λ r. ⌜ meaning r ≡ enter s (runOf m) ⌝ }
 {
@@ -596,13 +596,13 @@ fn enter_loop(m: State, s: Sort) -> Stepped
 }
 
 // Past a loop: both marks where it is found empty.
-fn leave_loop(marks: Marks, m: State, s: Sort) -> Stepped
+fn leave_loop(marks: Marks, m: State, s: LoopSort) -> Stepped
     requires { ⌜ Stands (runOf m) ⌝ }
     ensures { λ r. ⌜ Seen (marks .at) (λ xs. meaning r ≡ leave xs s (runOf m)) ⌝ }
 {
     let at = m.at;
     let to = mates::close_of(marks, at);
-    let sweep = table::is_sweep(s);
+    let sweep = state::measures(s);
     if top_is(m, at) {
         return state::hand_out(
             state::leave_to(state::pop_box(m), to, sweep),
@@ -618,12 +618,12 @@ fn leave_loop(marks: Marks, m: State, s: Sort) -> Stepped
 
 fn run_loop(marks: Marks, m: State, c: Condition) -> Stepped
     requires { ⌜ Stands (runOf m) × (ninth (runOf m) true ≡ false) ⌝ }
-    ensures { λ r. ⌜ Seen (marks .at) (λ xs. meaning r ≡ cond (holds (runOf m .vars) c) (enter loopBox (runOf m)) (leave xs loopBox (runOf m))) ⌝ }
+    ensures { λ r. ⌜ Seen (marks .at) (λ xs. meaning r ≡ cond (holds (runOf m .vars) c) (enter aLoop (runOf m)) (leave xs aLoop (runOf m))) ⌝ }
 {
     if state::condition_holds(m, c) {
-        enter_loop(m, Sort::Loop)
+        enter_loop(m, LoopSort::Loop)
     } else {
-        leave_loop(marks, m, Sort::Loop)
+        leave_loop(marks, m, LoopSort::Loop)
     }
 }
 
@@ -637,7 +637,7 @@ fn run_point(m: State, w: Sweep, p: Point) -> Stepped
     if !value::is_finite(Value::Real(p.current)) {
         return state::stop_by(m, Stop::NotFinite);
     }
-    enter_loop(state::write_point(m, w, p), Sort::Sweep)
+    enter_loop(state::write_point(m, w, p), LoopSort::Sweep)
 }
 
 fn run_sweep(marks: Marks, m: State, w: Sweep, o: Offer) -> Stepped
@@ -645,10 +645,10 @@ fn run_sweep(marks: Marks, m: State, w: Sweep, o: Offer) -> Stepped
     ensures { λ r. ⌜ Seen (marks .at) (λ xs. meaning r ≡ runSweep xs (runOf m) w o) ⌝ }
 {
     match o {
-        Offer::Nothing => leave_loop(marks, m, Sort::Sweep),
-        Offer::Float(_) => leave_loop(marks, m, Sort::Sweep),
+        Offer::Nothing => leave_loop(marks, m, LoopSort::Sweep),
+        Offer::Float(_) => leave_loop(marks, m, LoopSort::Sweep),
         Offer::Point(p) => run_point(m, w, p),
-        Offer::Done => leave_loop(marks, m, Sort::Sweep),
+        Offer::Done => leave_loop(marks, m, LoopSort::Sweep),
     }
 }
 
@@ -709,7 +709,7 @@ fn run_endloop(marks: Marks, m: State, p: usize) -> Stepped
         let at = m.at;
         return state::hand_out(
             state::leave_to(state::pop_box(m), at + 1, true),
-            What::Leave(Sort::Sweep),
+            What::Leave(LoopSort::Sweep),
         );
     }
     state::answered(state::go_to(m, p), Answer::Running)
@@ -1032,8 +1032,8 @@ fn state_ok(marks: Marks, n: usize, m: State) -> bool
 
 // ---- what is left over
 
-// A step that takes no item hands back the state before it as it is, with the flags that the control set; any other leaves nothing past the open
-// boxes. Nothing is left past the things.
+// A step that takes no item hands back the state before it as it is, with the flags that the control set; any other
+// leaves nothing past the open boxes. Nothing is left past the things.
 fn settle(before: State, r: Stepped) -> Stepped
     requires { ⌜ Faithful (runOf before) (meaning r) ⌝ }
     ensures { λ x. ⌜ Settled before (meaning r) x ⌝ }

@@ -1,10 +1,10 @@
 // A run: its state, what each step is told, its answers and the things it hands out, read and put.
 use case_text::lesser;
 use case_text::put::put;
-use case_text::put::put_float;
 use case_text::put::put_hex4;
 use case_text::put::put_number;
 use case_text::put::put_value;
+use case_text::read::at_most;
 use case_text::read::begins;
 use case_text::read::behind;
 use case_text::read::byte;
@@ -21,13 +21,11 @@ use machine::Ran;
 use machine::Said;
 use machine::Steps;
 use machine::Told;
-use script_text::put_range;
 use state::Answer;
 use state::Cell;
 use state::Control;
 use state::Fault;
 use state::Offer;
-use state::Order;
 use state::Point;
 use state::State;
 use state::Status;
@@ -35,8 +33,8 @@ use state::Stepped;
 use state::Stop;
 use state::Thing;
 use state::Var;
-use state::What;
-use table::Sort;
+use thing_text::Put;
+use thing_text::put_thing;
 use value::Value;
 
 const BOXES: usize = 8;
@@ -48,6 +46,9 @@ const THINGS: usize = 8;
 const STEPS: usize = 64;
 
 const HANDED: usize = 512;
+
+// More bytes than the text of any thing has.
+const MOST_TEXT: usize = 64;
 
 // What a place past the open boxes holds before a run: it stays where a step takes no item.
 const LEFT_OVER: usize = 77;
@@ -258,67 +259,24 @@ fn put_answer(out: &mut [u8], at: usize, answer: Answer) -> usize {
     }
 }
 
-// A float of an order, without its letter.
-fn put_real(out: &mut [u8], at: usize, value: Value) -> usize {
-    match value {
-        Value::Real(x) => put_float(out, at, x),
-        Value::Whole(_) => put_value(out, at, value),
+fn bytes_of(put: Put) -> usize {
+    match put {
+        Put::Written(n) => n,
+        Put::Short => 0,
     }
 }
 
-fn put_order(out: &mut [u8], at: usize, order: Order) -> usize {
-    match order {
-        Order::Wait(value) => {
-            let at = put(out, at, b"wait:");
-            put_real(out, at, value)
-        }
-        Order::SetE(value) => {
-            let at = put(out, at, b"set_e:");
-            put_real(out, at, value)
-        }
-        Order::SetMode(mode) => {
-            let at = put(out, at, b"set_pgstat_mode:");
-            put_number(out, at, mode as usize)
-        }
-        Order::CellOn => put(out, at, b"cell_on"),
-        Order::CellOff => put(out, at, b"cell_off"),
-    }
+// As the library writes it.
+fn put_text(out: &mut [u8], at: usize, thing: Thing) -> usize {
+    let mut bytes = [0u8; MOST_TEXT];
+    let written = bytes_of(put_thing(&mut bytes, thing));
+    let n = at_most(written, &bytes);
+    put(out, at, &bytes[..n])
 }
 
-// One mark for a measuring loop, another for a loop.
-fn put_mark(out: &mut [u8], at: usize, sort: Sort, sweep: &[u8], other: &[u8]) -> usize {
-    if table::is_sweep(sort) {
-        put(out, at, sweep)
-    } else {
-        put(out, at, other)
-    }
-}
-
-fn put_what(out: &mut [u8], at: usize, what: What) -> usize {
-    match what {
-        What::Nothing => put(out, at, b"nothing"),
-        What::Enter(sort) => put_mark(out, at, sort, b"M0000", b"L"),
-        What::Leave(sort) => put_mark(out, at, sort, b"*", b"+"),
-        What::Start => put(out, at, b"start"),
-        What::Part(value, kind) => {
-            let at = put(out, at, b"part:");
-            let at = put_hex4(out, at, kind);
-            let at = put(out, at, b":");
-            put_value(out, at, value)
-        }
-        What::End => put(out, at, b"end"),
-        What::Text(text) => {
-            let at = put(out, at, b"text:");
-            put_range(out, at, text)
-        }
-        What::Order(order) => put_order(out, at, order),
-    }
-}
-
-fn put_thing(out: &mut [u8], at: usize, start: usize, thing: Thing) -> usize {
-    let what = thing.what;
+fn put_listed(out: &mut [u8], at: usize, start: usize, thing: Thing) -> usize {
     let at = put_comma(out, at, start);
-    put_what(out, at, what)
+    put_text(out, at, thing)
 }
 
 fn put_things(out: &mut [u8], start: usize, stepped: Stepped) -> usize {
@@ -327,7 +285,7 @@ fn put_things(out: &mut [u8], start: usize, stepped: Stepped) -> usize {
     let mut i: usize = 0;
     while i < count {
         let thing = stepped.things[i];
-        at = put_thing(out, at, start, thing);
+        at = put_listed(out, at, start, thing);
         i += 1;
     }
     put_none(out, at, start)
@@ -492,7 +450,7 @@ fn put_handed(out: &mut [u8], start: usize, ran: Ran) -> usize {
     let mut i: usize = 0;
     while i < count {
         let thing = ran.things[i];
-        at = put_thing(out, at, start, thing);
+        at = put_listed(out, at, start, thing);
         i += 1;
     }
     put_none(out, at, start)

@@ -26,8 +26,8 @@ use Rattle.table.specs.declared.Close.{Close}
 use Rattle.table.specs.declared.Close.the-variants.{EndIf as endif, EndLoop as endloop}
 use Rattle.table.specs.declared.Item.{Item}
 use Rattle.table.specs.declared.Item.the-variants.{Act as act, Pack as pack, Open as opens, Branch as branch, Close as closes, Break as breakloop, Tag as tag}
-use Rattle.table.specs.declared.Sort.{Sort}
-use Rattle.table.specs.declared.Sort.the-variants.{Loop as loopBox, Sweep as sweepBox}
+use Rattle.state.specs.declared.LoopSort.{LoopSort}
+use Rattle.state.specs.declared.LoopSort.the-variants.{Loop as aLoop, Sweep as aSweep}
 use Rattle.table.specs.declared.Kind.the-variants.{Real as realKind}
 use Rattle.table.specs.declared.Known.the-variants.{Of as known}
 use Rattle.table.specs.declared.Give.the-variants.{Float as float}
@@ -139,7 +139,7 @@ module _ {names size : ℕ} {items : List Item} (ok : Accepted names size items)
         → (ps : List ℕ) → ps ≡ positions l → Good ok (goto (keep m vs) (suc (m .at)) (m .at ∷ ps))
     entered-fine d h vs v c e a ps q = land ok (more (h .reach)) (inl (rw q)) (h .packed) c (e, a) v (h .living)
 
-    leave-fine : (d : Head) {xs : List Item} (o : Sort) → Here ok m su l p tg k (opens d ∷ xs) → isLoop (sortOf d) ≡ true → FineStep (leave items o m)
+    leave-fine : (d : Head) {xs : List Item} (o : LoopSort) → Here ok m su l p tg k (opens d ∷ xs) → isLoop (sortOf d) ≡ true → FineStep (leave items o m)
     leave-fine d o h q =
         let f = past-close ok (close-head ok (h .reach)) in
         land ok (f .reach) (inl (outside-is ok h)) (h .packed ∙ (clean ok (h .reach)) .packed) (λ n e. h .cover n (f .loops q n e)) (h .covers) (h .vars) (h .living)
@@ -160,9 +160,9 @@ module _ {names size : ℕ} {items : List Item} (ok : Accepted names size items)
     loop-fine : (c : Condition) {xs : List Item} (o : Offer) → Here ok m su l p tg k (opens (loop c) ∷ xs) → FineStep (runHead items m (loop c) o)
     loop-fine c o h = go (holds (m .vars) c)
       where
-        go : (b : Bool) → FineStep (cond b (enter loopBox m) (leave items loopBox m))
+        go : (b : Bool) → FineStep (cond b (enter aLoop m) (leave items aLoop m))
         go true = entered-fine (loop c) h (m .vars) (h .vars) (h .cover) (h .cover) (h .covers) (outside (m .at) (m .boxes)) (outside-is ok h)
-        go false = leave-fine (loop c) loopBox h refl
+        go false = leave-fine (loop c) aLoop h refl
 
     point-fine : (w : Sweep) {xs : List Item} (x y : Float) → Here ok m su l p tg k (opens (sweep w) ∷ xs) → FineStep (runPoint m w x y)
     point-fine w x y h = go (finite (real x)) (finite (real y)) refl refl
@@ -197,7 +197,7 @@ module _ {names size : ℕ} {items : List Item} (ok : Accepted names size items)
         d₂ : differ (kindAt (textKinds items) (w .current)) (known realKind) ≡ false
         d₂ = or-l _ _ d
 
-        go : (a b : Bool) → finite (real x) ≡ a → finite (real y) ≡ b → FineStep (cond (a && b) (enter sweepBox (keep m v₂)) (stopsBy code0010 m))
+        go : (a b : Bool) → finite (real x) ≡ a → finite (real y) ≡ b → FineStep (cond (a && b) (enter aSweep (keep m v₂)) (stopsBy code0010 m))
         go true true e f =
             let s₁ = set-vars (m .vars) (w .potential) w₁ (h .vars) e d₁ in
             entered-fine (sweep w) h v₂ (set-vars v₁ (w .current) w₂ s₁ f d₂)
@@ -211,10 +211,10 @@ module _ {names size : ℕ} {items : List Item} (ok : Accepted names size items)
     head-fine : (d : Head) {xs : List Item} (o : Offer) → Here ok m su l p tg k (opens d ∷ xs) → FineStep (runHead items m d o)
     head-fine (if' c) o h = if-fine c o h
     head-fine (loop c) o h = loop-fine c o h
-    head-fine (sweep w) nothing h = leave-fine (sweep w) sweepBox h refl
-    head-fine (sweep w) (oneFloat x) h = leave-fine (sweep w) sweepBox h refl
+    head-fine (sweep w) nothing h = leave-fine (sweep w) aSweep h refl
+    head-fine (sweep w) (oneFloat x) h = leave-fine (sweep w) aSweep h refl
     head-fine (sweep w) (onePoint q) h = point-fine w (q .potential) (q .current) h
-    head-fine (sweep w) done h = leave-fine (sweep w) sweepBox h refl
+    head-fine (sweep w) done h = leave-fine (sweep w) aSweep h refl
 
     break-fine : {xs : List Item} → Here ok m su l p tg k (breakloop ∷ xs) → FineStep (runBreak items m (unwind items (m .boxes)))
     break-fine {xs} h =
@@ -252,7 +252,7 @@ module _ {names size : ℕ} {items : List Item} (ok : Accepted names size items)
         g : Headed items (m .at) (erase (b ∷ bs)) (closes endloop ∷ xs) tg b bs
         g = (static ok (h .reach)) .heads .0
 
-        go : (c : Bool) → FineStep (cond c (said (leaves sweepBox ∷ []) (unskip true (goto m (suc (m .at)) (positions bs)))) (said [] (goto m (b .at) (b .at ∷ positions bs))))
+        go : (c : Bool) → FineStep (cond c (said (leaves aSweep ∷ []) (unskip true (goto m (suc (m .at)) (positions bs)))) (said [] (goto m (b .at) (b .at ∷ positions bs))))
         go true =
             land ok (more (h .reach)) (inl refl) (h .packed) (λ n e. h .covers .0 n (left-loop (b .sort) b su loops n e)) (h .covers .1) (h .vars) (h .living)
         go false =

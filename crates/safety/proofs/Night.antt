@@ -9,7 +9,7 @@ use lib.ListN.{length, replicate}
 use Rattle.value.specs.declared.Value.the-variants.{Real as real}
 use Rattle.value.specs.Literal.{plain, over}
 use Rattle.table.specs.declared.Script.{Script}
-use Rattle.table.specs.declared.Sort.the-variants.{Loop as loopBox, Sweep as sweepBox}
+use Rattle.state.specs.declared.LoopSort.the-variants.{Loop as aLoop, Sweep as aSweep}
 use Rattle.script.specs.Load.{loaded}
 use Rattle.rules.specs.Check.{accepted, verdict}
 use Rattle.state.specs.declared.Control.{Control}
@@ -61,7 +61,7 @@ whole-run =
     -- a float where a point or done is wanted: refused; nothing: a wait; a point enters
     ++ (noControl, oneFloat (volts 1), refuse 31, [])
     ∷ (noControl, nothing, waiting, [])
-    ∷ (noControl, at 1 2, running, enters sweepBox ∷ [])
+    ∷ (noControl, at 1 2, running, enters aSweep ∷ [])
     ∷ packed 1 2
     ++ goes []
     -- the second point, and a skip in its package: the sweep is left at its endloop
@@ -70,9 +70,9 @@ whole-run =
     ∷ goes (packPart (real (volts 3)) da ∷ [])
     ∷ goes (packPart (real (volts 4)) ba ∷ [])
     ∷ goes (packEnd ∷ [])
-    ∷ goes (leaves sweepBox ∷ [])
+    ∷ goes (leaves aSweep ∷ [])
     -- the loop, once by its if and once by its elseif, which breaks
-    ∷ goes (enters loopBox ∷ [])
+    ∷ goes (enters aLoop ∷ [])
     ∷ goes []
     ∷ goes []
     ∷ goes (waits (real (volts 1)) ∷ [])
@@ -81,11 +81,11 @@ whole-run =
     ∷ goes []
     ∷ goes []
     ∷ goes []
-    ∷ goes (leaves loopBox ∷ [])
+    ∷ goes (leaves aLoop ∷ [])
     -- two readings, an empty sweep, the abort, the tag, the end; a finished run repeats its answer
     ∷ (noControl, oneFloat (volts 5), running, [])
     ∷ (noControl, oneFloat (volts 6), running, [])
-    ∷ (noControl, done, running, enters sweepBox ∷ leaves sweepBox ∷ [])
+    ∷ (noControl, done, running, enters aSweep ∷ leaves aSweep ∷ [])
     ∷ goes []
     ∷ goes []
     ∷ goes (switchesCell false ∷ [])
@@ -97,9 +97,9 @@ whole-run =
 abbrev aborted-run : List Entry
 aborted-run =
     settle
-    ++ (noControl, done, running, enters sweepBox ∷ leaves sweepBox ∷ [])
-    ∷ goes (enters loopBox ∷ [])
-    ∷ (Z, nothing, running, leaves loopBox ∷ [])
+    ++ (noControl, done, running, enters aSweep ∷ leaves aSweep ∷ [])
+    ∷ goes (enters aLoop ∷ [])
+    ∷ (Z, nothing, running, leaves aLoop ∷ [])
     ∷ goes (switchesCell false ∷ [])
     ∷ (noControl, nothing, finished, [])
     ∷ []

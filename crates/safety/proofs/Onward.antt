@@ -14,7 +14,8 @@ use Rattle.table.specs.declared.Script.{Script}
 use Rattle.table.specs.Shape.{inShape, itemsOf}
 use Rattle.table.specs.Uses.{first}
 use Rattle.script.specs.Load.{loaded}
-use Rattle.rules.specs.Check.{State as Walked, begin, kindsOf, refusals, refusalsAtEnd, after, Verdict, accepted, refused, orGo, walk, atLine, walked, verdict}
+use Rattle.rules.specs.Check.{State as Walked, begin, kindsOf, refusals, refusalsAtEnd, after}
+use Rattle.rules.specs.Check.{Verdict, accepted, refused, orGo, walk, atLine, walked, verdict}
 use Rattle.state.specs.declared.Control.{Control}
 use Rattle.state.specs.declared.Offer.{Offer}
 use Rattle.state.specs.State.{Run, fresh}
@@ -24,7 +25,8 @@ use Rattle.machine.specs.Parts.{followed, Call, Called, stepsOfAll, courseOfAll
 use Rattle.machine.proofs.Parts.{in-parts, all-chain}
 use Rattle.safety.specs.declared.Checked.{Checked}
 use Rattle.safety.specs.Safety.{Promises, allAllowed}
-use Rattle.safety.specs.Outcome.{Outcome, refusal, judged, checkedOutcome, outcome, numberOf, meaning, GoesOn, OnAndOn}
+use Rattle.safety.specs.Outcome.{Outcome, refusal, judged, checkedOutcome, outcome, numberOf, meaning}
+use Rattle.safety.specs.Outcome.{GoesOn, OnAndOn}
 use Rattle.safety.proofs.Safe.{safe, safe-onward, promised-answers}
 
 -- ---- the number 0 is that of an accepted text alone
@@ -84,16 +86,19 @@ checked-passed text ps o formed e z = go (verdict (length text) ((loaded text) .
         → o ≡ judged v (runFrom (length text) ((loaded text) .table) fresh ps) → Passed text ps (o .course)
     go accepted q f = record { formed = formed; ok = q; came = ap (λ (x : Outcome). x .course) f }
     go (refused n k) q f =
-        let no = verdict-tells (length text) ((loaded text) .table) (ap numberIn q ∙ sym (ap (λ (x : Outcome). x .number) f) ∙ z) in
+        let zero-in = ap numberIn q ∙ sym (ap (λ (x : Outcome). x .number) f) ∙ z in
+        let no = verdict-tells (length text) ((loaded text) .table) zero-in in
         let bad : refused n k ≡ accepted = sym q ∙ no in
         absurd (not-accepted n k bad)
 
-passed : (text : List ℕ) (ps : List (Control × Offer)) (o : Outcome) → o ≡ outcome text ps → o .number ≡ 0 → Passed text ps (o .course)
+passed : (text : List ℕ) (ps : List (Control × Offer)) (o : Outcome) → o ≡ outcome text ps → o .number ≡ 0
+    → Passed text ps (o .course)
 unfolding outcome
 passed text ps o e z = go (eqb ((loaded text) .number) 0) refl e
   where
     go : (b : Bool) → eqb ((loaded text) .number) 0 ≡ b
-        → o ≡ cond b (checkedOutcome (length text) ((loaded text) .table) ps) (refusal ((loaded text) .number) ((loaded text) .line))
+        → o ≡ cond b (checkedOutcome (length text) ((loaded text) .table) ps)
+        (refusal ((loaded text) .number) ((loaded text) .line))
         → Passed text ps (o .course)
     go true q f = checked-passed text ps o (eqb-true ((loaded text) .number) 0 q) f z
     go false q f =
@@ -112,7 +117,8 @@ on-and-on text ps r calls e z h =
     let p = passed text ps (meaning r) e z in
     let c = all-chain size t m calls h in
     let at : runOf m ≡ runFrom size t fresh ps .last = ap (λ (x : Course). x .last) (p .came) in
-    let onward : Promises size t (runOf m) qs = subst (λ (x : Run). Promises size t x qs) (sym at) (safe-onward size t (p .ok) ps qs) in
+    let onward : Promises size t (runOf m) qs =
+    subst (λ (x : Run). Promises size t x qs) (sym at) (safe-onward size t (p .ok) ps qs) in
     record {
       whole =
           ap (λ (x : Course). followed (courseOf (r .ran)) x) (c .says)
@@ -121,5 +127,7 @@ on-and-on text ps r calls e z h =
           ∙ sym (in-parts size t fresh ps qs);
       promises = safe size t (p .ok) (ps ++ qs);
       onward = onward;
-      allowed = ap (λ (x : Course). allAllowed (x .answers)) (c .says) ∙ promised-answers size t (p .ok) qs (runOf m) onward;
+      allowed =
+          ap (λ (x : Course). allAllowed (x .answers)) (c .says)
+          ∙ promised-answers size t (p .ok) qs (runOf m) onward;
     }

@@ -88,10 +88,14 @@ from-fresh s f e = e .comes .says ∙ rw (f, take-take (s .count) (s .count) (al
 
 -- a run from a neat state leaves a neat one
 pub fixed : {size : ℕ} {t : Script} {m : State} {ps : List (Control × Offer)} {r : Ran} → Neat m → ExactRun size t m ps r → Fixed r
-fixed {size} {t} {m} {ps} {r} n e = record { neat = go (allStay (runOf m .status) ((courseOf r) .answers)) refl; blank = e .blank }
+fixed {size} {t} {m} {ps} {r} n e = record {
+  neat = go (allStay (runOf m .status) ((courseOf r) .answers)) refl;
+  blank = e .blank;
+}
   where
     go : (b : Bool) → allStay (runOf m .status) ((courseOf r) .answers) ≡ b → Neat (r .state)
     go true q =
         subst Neat (sym (e .comes .rests q))
-        (alike-neat (restingAll (itemsOf t) m ps ((courseOf r) .answers)) m (all-alike (itemsOf t) m ps ((courseOf r) .answers)) n)
+        (alike-neat (restingAll (itemsOf t) m ps ((courseOf r) .answers)) m
+        (all-alike (itemsOf t) m ps ((courseOf r) .answers)) n)
     go false q = e .comes .neat q

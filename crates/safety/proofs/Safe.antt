@@ -60,7 +60,8 @@ module _ (size : ℕ) (t : Script) (ok : verdict size t ≡ accepted) where
   safe ps = runs-kept ps fresh (fresh-good accepts)
 
   -- the promise of a run is that of each of its parts
-  promised-onward : (ps qs : List (Control × Offer)) (m : Run) → Promises size t m (ps ++ qs) → Promises size t (runFrom size t m ps .last) qs
+  promised-onward : (ps qs : List (Control × Offer)) (m : Run) → Promises size t m (ps ++ qs)
+      → Promises size t (runFrom size t m ps .last) qs
   unfolding runFrom
   promised-onward [] qs m h = h
   promised-onward (p ∷ ps) qs m h = promised-onward ps qs (step size t m (p .0) (p .1) .next) (h .1)
@@ -68,7 +69,8 @@ module _ (size : ℕ) (t : Script) (ok : verdict size t ≡ accepted) where
   pub safe-onward : SafeOnward size t
   safe-onward ps qs = promised-onward ps qs fresh (safe (ps ++ qs))
 
-  pub promised-answers : (ps : List (Control × Offer)) (m : Run) → Promises size t m ps → allAllowed ((runFrom size t m ps) .answers) ≡ true
+  pub promised-answers : (ps : List (Control × Offer)) (m : Run) → Promises size t m ps
+      → allAllowed ((runFrom size t m ps) .answers) ≡ true
   unfolding runFrom
   promised-answers [] m h = refl
   promised-answers (p ∷ ps) m h = and-t (h .0 .answer) (promised-answers ps ((step size t m (p .0) (p .1)) .next) (h .1))

@@ -70,8 +70,9 @@ pub record Fixed (r : Ran) : Type 0 where
 
 -- ---- more than 64 steps
 
--- `run` has answered r to the steps ps of an accepted text, and `machine::run` is called as often as one likes, first from the state in r and then
--- each time from the state that it handed back: all of it is one run from fresh, and demand 3 holds of every step
+-- `run` has answered r to the steps ps of an accepted text, and `machine::run` is called as often as one likes, first
+-- from the state in r and then each time from the state that it handed back: all of it is one run from fresh, and
+-- demand 3 holds of every step
 pub record GoesOn (text : List ℕ) (ps : List (Control × Offer)) (r : Checked) (calls : List Call) : Type 0 where
   pub whole : followed (courseOf (r .ran)) (courseOfAll (runOf (r .ran .state)) calls)
       ≡ runFrom (length text) ((loaded text) .table) fresh (ps ++ stepsOfAll calls)

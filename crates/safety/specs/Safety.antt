@@ -129,7 +129,7 @@ Safe size t = (ps : List (Control × Offer)) → Promises size t fresh ps
 abbrev pub SafeText : List ℕ → Type 0
 SafeText text = (loaded text) .number ≡ 0 → verdict (length text) ((loaded text) .table) ≡ accepted → Safe (length text) ((loaded text) .table)
 
--- started fresh, after any steps ps, stepping on with qs keeps it too: so a run may be taken in as many parts as one likes
+-- started fresh, after any steps ps, stepping on with qs keeps it too: a run may be taken in as many parts as one likes
 abbrev pub SafeOnward : ℕ → Script → Type 0
 SafeOnward size t = (ps qs : List (Control × Offer)) → Promises size t (runFrom size t fresh ps .last) qs
 

@@ -289,13 +289,14 @@ fn held() -> Vec<Example> {
     let inside = "0 boxes=0 abort=0 skip=0 package=0 values=-";
     let waits = ["Y nothing", "none float 0000000000000000", "Z nothing"];
     let moves = ["Y nothing", "none done", "none nothing"];
+    let waiting = "waiting things=-";
     let said = |answers: &[&str]| {
         let lines = answers.iter().enumerate().map(|(place, answer)| format!("step={} answer={answer}\n", place + 1));
         lines.collect::<String>()
     };
     vec![
-        expect(case("run_table", inside, "-", &waits), said(&["waiting things=-", "refused:31 things=-", "waiting things=-"])),
-        expect(case("run_table", inside, "-", &moves), said(&["waiting things=-", "running things=*", "finished things=-"])),
+        expect(case("run_table", inside, "-", &waits), said(&[waiting, "refused:31 things=-", waiting])),
+        expect(case("run_table", inside, "-", &moves), said(&[waiting, "running things=*", "finished things=-"])),
         expect(case("run_table", inside, "stopped:0010", &waits), said(&["stopped:0010 things=-"; 3])),
         alike(case("run_within", inside, "-", &waits)),
         alike(case("run_within", inside, "-", &moves)),

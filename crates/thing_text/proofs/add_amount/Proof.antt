@@ -1,0 +1,52 @@
+use lib.IntN.{ℤ}
+use Rattle.value.proofs.Wrap.{back32}
+use mathlib.Core.Path.{sym, subst}
+use Rattle.value.specs.declared.Value.{Value}
+use Rattle.thing_text.specs.Words.{Adds}
+use Rattle.thing_text.proofs.Bytes.{adds-more}
+use Rattle.thing_text.specs.Thing.{wholeText, amountText}
+use borrow.Author.Needs.{needs}
+use Rattle.thing_text.proofs.add_amount.Statement.{statement}
+use Rattle.thing_text.proofs.add_amount.Tie as tie
+
+enum-known-v : tie.Need-enum-known-v
+enum-known-v c = search needs
+
+add-byte-requires : tie.Need-add-byte-requires
+add-byte-requires c κs = search needs
+
+add-whole-requires : tie.Need-add-whole-requires
+add-whole-requires c κs = search needs
+
+enum-known-v-2 : tie.Need-enum-known-v-2
+enum-known-v-2 c = search needs
+
+add-float-requires : tie.Need-add-float-requires
+add-float-requires c κs = search needs
+
+returns : tie.Need-returns
+unfolding amountText
+returns c =
+    subst
+    (λ (v : Value). Adds (c .before .before .before .before .before .args .w) (amountText v) (c .add-whole .result))
+    (sym (c .before .before .before .v .given .1)) (adds-more (c .before .add-byte .ensures)
+    (subst (λ (n : ℤ). Adds (c .before .add-byte .result) (wholeText n) (c .add-whole .result))
+    (back32 _ (c .before .before .known-told .given .0 .1)) (c .add-whole .ensures)))
+
+returns-2 : tie.Need-returns-2
+unfolding amountText
+returns-2 c =
+    subst (λ (v : Value). Adds (c .before .before .before .before .args .w) (amountText v) (c .add-float .result))
+    (sym (c .before .before .v2 .given .1)) (c .add-float .ensures)
+
+pub add-amount-spec : {M : Type 1} → statement M
+add-amount-spec =
+    tie.close
+    (tie.spec
+    enum-known-v
+    add-byte-requires
+    add-whole-requires
+    enum-known-v-2
+    add-float-requires
+    returns
+    returns-2)

@@ -1,0 +1,36 @@
+use Prim.Native.Nat.{ℕ}
+use mathlib.Core.List.{List}
+use mathlib.Core.Path.{subst, _∙_}
+use Rattle.thing_text.specs.Words.{Adds}
+use Rattle.thing_text.proofs.Bytes.{four-put}
+use borrow.Author.Needs.{needs}
+use Rattle.thing_text.proofs.add_hex4.Statement.{statement}
+use Rattle.thing_text.proofs.add_hex4.Tie as tie
+
+slice-aggregate-put-hex4 : tie.Need-slice-aggregate-put-hex4
+slice-aggregate-put-hex4 c = search needs
+
+put-hex4-requires : tie.Need-put-hex4-requires
+put-hex4-requires c κs = search needs
+
+slice-aggregate-add-word : tie.Need-slice-aggregate-add-word
+slice-aggregate-add-word c = search needs
+
+add-word-requires : tie.Need-add-word-requires
+add-word-requires c κs = search needs
+
+returns : tie.Need-returns
+returns c =
+    let a = c .before .before .before .before .before .args in
+    subst (λ (vs : List ℕ). Adds (a .w) vs (c .add-word .result))
+    (c .before .before .before .put-hex4 .ensures ∙ four-put (a .n)) (c .add-word .ensures)
+
+pub add-hex4-spec : {M : Type 1} → statement M
+add-hex4-spec =
+    tie.close
+    (tie.spec
+    slice-aggregate-put-hex4
+    put-hex4-requires
+    slice-aggregate-add-word
+    add-word-requires
+    returns)

@@ -1,0 +1,3 @@
+pub mod Thing
+pub mod Words
+pub mod Read
