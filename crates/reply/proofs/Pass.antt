@@ -16,7 +16,7 @@ use Rattle.reply_line.specs.declared.Refusal.the-variants as Refusal
 use Rattle.reply_line.specs.declared.Line.{Line}
 use Rattle.reply_line.specs.declared.Line.the-variants as Line
 use Rattle.reply_line.specs.Line.{laterLine, lineAt}
-use Rattle.reply_line.specs.Known.{laterBy}
+use Rattle.reply_line.specs.Code.{laterBy}
 use Rattle.reply_line.proofs.Lines.{known-same}
 use Rattle.reply.specs.declared.Move.{Move}
 use Rattle.reply.specs.declared.Move.the-variants as Move

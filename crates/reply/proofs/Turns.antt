@@ -11,7 +11,7 @@ use Rattle.reply_line.specs.declared.Kind.the-variants as Kind
 use Rattle.reply_line.specs.declared.Refusal.{Refusal}
 use Rattle.reply_line.specs.declared.Line.{Line}
 use Rattle.reply_line.specs.declared.Line.the-variants as Line
-use Rattle.reply_line.specs.Known.{laterBy}
+use Rattle.reply_line.specs.Code.{laterBy}
 use Rattle.reply.specs.declared.NextLine.{NextLine}
 use Rattle.reply.specs.declared.NextLine.the-variants as NextLine
 use Rattle.reply.specs.declared.Answer.{Answer}

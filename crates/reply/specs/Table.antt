@@ -7,7 +7,7 @@ use lib.ListN.{take, drop, getD, set}
 use Rattle.reply_line.specs.declared.Kind.the-variants as Kind
 use Rattle.reply_line.specs.declared.Line.{Line}
 use Rattle.reply_line.specs.declared.Line.the-variants as Line
-use Rattle.reply_line.specs.Known.{laterBy}
+use Rattle.reply_line.specs.Code.{laterBy}
 use Rattle.reply.specs.declared.NextLine.{NextLine}
 use Rattle.reply.specs.declared.NextLine.the-variants as NextLine
 use Rattle.reply.specs.declared.Answer.{Answer}

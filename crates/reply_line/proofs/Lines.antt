@@ -18,7 +18,7 @@ use Rattle.reply_line.specs.declared.Refusal.the-variants as Refusal
 use Rattle.reply_line.specs.declared.Line.{Line}
 use Rattle.reply_line.specs.declared.Line.the-variants as Line
 use Rattle.reply_line.specs.Line.{packageLine, markLine, aloneIn, byFirst, laterLine}
-use Rattle.reply_line.specs.Known.{packageBy, laterBy}
+use Rattle.reply_line.specs.Code.{packageBy, laterBy}
 
 pub later-is : (known : Bool) (s : List ℕ) (c : ℕ) → 1 ≤ length s → getD s 0 0 ≡ c → byFirst (packageBy known s) c s ≡ laterBy known s
 unfolding laterBy

@@ -7,7 +7,7 @@ use Rattle.reply_line.specs.declared.Kind.{Kind}
 use Rattle.reply_line.specs.declared.Refusal.{Refusal}
 use Rattle.reply_line.specs.declared.Line.{Line}
 use Rattle.reply_line.specs.Line.{numberOf, letterOf, lineAt}
-use Rattle.reply_line.specs.Known.{laterBy}
+use Rattle.reply_line.specs.Code.{laterBy}
 
 pub only-number : (why : Refusal) (a b : ℕ) → a ≡ numberOf why → b ≡ numberOf why → a ≡ b
 only-number why a b p q = p ∙ sym q

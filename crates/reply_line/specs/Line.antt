@@ -1,9 +1,10 @@
 -- 01, Packages and replies: what one line of a reply is, by itself. Assumes nothing.
 use mathlib.Core.Bool.{Bool, _&&_, _||_, cond}
-use mathlib.Core.List.{List}
+use mathlib.Core.List.{List, [], _∷_}
 use Prim.Native.Nat.{ℕ}
 use lib.Dec.{leb, ltb, eqb}
 use lib.ListN.{length, getD}
+use Rattle.text.specs.Bytes.{byte}
 use Rattle.text.specs.Hex.{readHex}
 use Rattle.text.specs.declared.Hex.{Hex}
 use Rattle.text.specs.declared.Hex.the-variants as Hex
@@ -29,9 +30,9 @@ numberOf Refusal.TooLong = 55
 
 -- the kinds of rows: S, M, L
 unfoldable pub letterOf : Kind → ℕ
-letterOf Kind.Script = 0x53
-letterOf Kind.Measuring = 0x4D
-letterOf Kind.Plain = 0x4C
+letterOf Kind.Script = byte "S"
+letterOf Kind.Measuring = byte "M"
+letterOf Kind.Plain = byte "L"
 
 abbrev pub unknown : Line
 unknown = Line.Refused Refusal.UnknownLine
@@ -43,12 +44,12 @@ nonZero (Hex.Number v) = cond (eqb v 0) Hex.Bad (Hex.Number v)
 nonZero Hex.Bad = Hex.Bad
 
 unfoldable pub endsError : List ℕ → Bool
-endsError s = leb (length s) 6 || (eqb (getD s 6 0) 0x3A && (leb 8 (length s) && eqb (getD s 7 0) 0x20))
+endsError s = leb (length s) 6 || (eqb (getD s 6 0) (byte ":") && (leb 8 (length s) && eqb (getD s 7 0) (byte " ")))
 
 unfoldable pub errorCode : List ℕ → Hex
 unfolding nonZero endsError
 errorCode s =
-    cond (leb 6 (length s) && (eqb (getD s 0 0) 0x65 && (eqb (getD s 1 0) 0x21 && endsError s)))
+    cond (leb 6 (length s) && (eqb (getD s 0 0) (byte "e") && (eqb (getD s 1 0) (byte "!") && endsError s)))
     (nonZero (readHex 4 s 2)) Hex.Bad
 
 -- ---- "A reply's first line is `e`, or an error line"; row 0 of the n rows belongs to it
@@ -62,7 +63,7 @@ firstError n (Hex.Number v) = withRow n (Line.Error v)
 firstError n Hex.Bad = unknown
 
 unfoldable pub isE : List ℕ → Bool
-isE s = eqb (length s) 1 && eqb (getD s 0 0) 0x65
+isE s = eqb (length s) 1 && eqb (getD s 0 0) (byte "e")
 
 unfoldable pub firstLine : ℕ → List ℕ → Line
 unfolding isE errorCode firstError
@@ -91,21 +92,29 @@ unfoldable pub laterError : Hex → Line
 laterError (Hex.Number v) = Line.Error v
 laterError Hex.Bad = unknown
 
--- by the first byte; `pk` is what a package comes to
+-- a row for each first byte; `pk` is what a package comes to
+abbrev pub laterRows : Line → List ℕ → List (ℕ × Line)
+laterRows pk s =
+    (byte "M", markLine s)
+    ∷ (byte "*", aloneIn s (Line.Closes Kind.Measuring))
+    ∷ (byte "L", aloneIn s (Line.Opens Kind.Plain 0))
+    ∷ (byte "+", aloneIn s (Line.Closes Kind.Plain))
+    ∷ (byte "P", pk)
+    ∷ (byte "T", Line.Quiet)
+    ∷ (byte "h", aloneIn s Line.Quiet)
+    ∷ (byte "H", aloneIn s Line.Quiet)
+    ∷ (byte "Y", aloneIn s Line.Quiet)
+    ∷ (byte "Z", aloneIn s Line.Quiet)
+    ∷ (byte "e", laterError (errorCode s))
+    ∷ []
+
+abbrev pub rowOf : ℕ → List (ℕ × Line) → Line
+rowOf c [] = unknown
+rowOf c (r ∷ rs) = cond (eqb c (r .0)) (r .1) (rowOf c rs)
+
 unfoldable pub byFirst : Line → ℕ → List ℕ → Line
 unfolding aloneIn markLine laterError errorCode
-byFirst pk c s =
-    cond (eqb c 0x4D) (markLine s)
-    (cond (eqb c 0x2A) (aloneIn s (Line.Closes Kind.Measuring))
-    (cond (eqb c 0x4C) (aloneIn s (Line.Opens Kind.Plain 0))
-    (cond (eqb c 0x2B) (aloneIn s (Line.Closes Kind.Plain))
-    (cond (eqb c 0x50) pk
-    (cond (eqb c 0x54) Line.Quiet
-    (cond (eqb c 0x68) (aloneIn s Line.Quiet)
-    (cond (eqb c 0x48) (aloneIn s Line.Quiet)
-    (cond (eqb c 0x59) (aloneIn s Line.Quiet)
-    (cond (eqb c 0x5A) (aloneIn s Line.Quiet)
-    (cond (eqb c 0x65) (laterError (errorCode s)) unknown))))))))))
+byFirst pk c s = rowOf c (laterRows pk s)
 
 unfoldable pub laterLine : List ℕ → Line
 unfolding byFirst packageLine

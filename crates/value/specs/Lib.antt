@@ -1,4 +1,4 @@
 pub mod Value
 pub mod Arithmetic
-pub mod Fold
 pub mod Literal
+pub mod Code

@@ -5,7 +5,7 @@ ghost use lib.IntN.{natAbs, pos, negℤ, _+ℤ_, _-ℤ_, _*ℤ_};
 ghost use lib.ListN.{length, drop};
 ghost use lib.Signed.{quotZ, remZ, mag};
 ghost use Rattle.value.specs.Arithmetic.{rest, signedWord, wrap, wholes, isZero, reals, checked, isFinite, finite, calculated, compareWholes, compareReals, compares};
-ghost use Rattle.value.specs.Fold.{folded};
+ghost use Rattle.value.specs.Code.{folded};
 ghost use Rattle.prefix.specs.Prefix.{prefixOf};
 ghost use Rattle.value.specs.Literal.{lettered, suffixed, finish, readDigits, literal};
 

@@ -4,7 +4,7 @@ use mathlib.Core.List.{List, [], _∷_, _++_}
 use Prim.Native.Nat.{ℕ, suc, _+_, _-_, _*_}
 use lib.Dec.{leb, eqb}
 use lib.ListN.{length, take, drop, getD, replicate}
-use Rattle.text.specs.Bytes.{blank, digit, lower, starts, nameByte}
+use Rattle.text.specs.Bytes.{byte, blank, digit, lower, starts, nameByte}
 pub use Rattle.word.specs.declared.Class.{Class}
 pub use Rattle.word.specs.declared.Class.the-variants.{Blank, Solid, NameByte}
 pub use Rattle.word.specs.declared.Span.{Span}
@@ -39,7 +39,7 @@ part s w = take (w .end - w .start) (drop (w .start) s)
 
 -- only spaces and tabs, or starting with # after them
 unfoldable pub skipped : List ℕ → Bool
-skipped s = eqb (run Blank s) (length s) || eqb (getD s (run Blank s) 0) 35
+skipped s = eqb (run Blank s) (length s) || eqb (getD s (run Blank s) 0) (byte "#")
 
 -- ---- names, types, small numbers
 
@@ -54,7 +54,8 @@ readType w = cond (eqb (length w) 2 && (lower (getD w 0 0) && lower (getD w 1 0)
 -- digits 0 to 255, in any count
 unfoldable pub readSmall : ℕ → List ℕ → Small
 readSmall v [] = number v
-readSmall v (c ∷ s) = cond (digit c && leb (v * 10 + (c - 48)) 255) (readSmall (v * 10 + (c - 48)) s) noNumber
+readSmall v (c ∷ s) =
+    cond (digit c && leb (v * 10 + (c - byte "0")) 255) (readSmall (v * 10 + (c - byte "0")) s) noNumber
 
 unfoldable pub smallOf : List ℕ → Small
 smallOf w = cond (leb 1 (length w)) (readSmall 0 w) noNumber
@@ -62,7 +63,7 @@ smallOf w = cond (leb 1 (length w)) (readSmall 0 w) noNumber
 -- ---- words of a table: 16 bytes a row, filled up with spaces, which no word holds
 
 unfoldable pub padded : List ℕ → List ℕ
-padded w = take 16 w ++ replicate (16 - length w) 32
+padded w = take 16 w ++ replicate (16 - length w) (byte " ")
 
 unfoldable pub sameBytes : List ℕ → List ℕ → Bool
 sameBytes [] [] = true

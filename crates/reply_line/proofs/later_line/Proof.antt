@@ -1,6 +1,6 @@
 use mathlib.Core.Bool.{Bool}
 use Rattle.reply_line.specs.Line.{byFirst}
-use Rattle.reply_line.specs.Known.{packageBy, laterBy}
+use Rattle.reply_line.specs.Code.{packageBy, laterBy}
 use Rattle.reply_line.proofs.Lines.{later-is}
 use mathlib.Core.Path.{refl, sym, _∙_, ap}
 use borrow.Author.Tests.{ne-eqb, le-leb, lt-leb}

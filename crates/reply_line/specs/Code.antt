@@ -1,4 +1,5 @@
--- The code's two ways to take a line: judged, and of a reply that is known to be good, where a package is not read again. Assumes nothing.
+-- What only the code's shape needs: its two ways to take a line, judged, and of a reply that is known to be good, where
+-- a package is not read again. Assumes nothing.
 use mathlib.Core.Bool.{Bool, cond}
 use mathlib.Core.List.{List}
 use Prim.Native.Nat.{ℕ}
