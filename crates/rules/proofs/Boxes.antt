@@ -13,7 +13,7 @@ use Rattle.rules.specs.Words.{Item, branch, closes, breakloop, Branch, C
 use Rattle.table.specs.Item.{isLoop, isBranch, isClose, isBreak}
 use Rattle.table.specs.Uses.{Names}
 use Rattle.rules.specs.Check.{Box, anyBox, isEmpty, baseOf, misplaced}
-use Rattle.rules.specs.Standing.{noBox, topFirst, fitsInnermost, elseSeen}
+use Rattle.rules.specs.Code.{noBox, topFirst, fitsInnermost, elseInnermost}
 
 pub length-top : (l : List Box) (n : ℕ) → length (topFirst l n) ≡ n
 length-top l zero = refl
@@ -75,11 +75,11 @@ pub no-mark : (x : Item) (bs : List Box) → isBranch x ≡ false → isClose x 
 no-mark x [] p q r = rw (p, q, r)
 no-mark x (b ∷ bs) p q r = rw (p, q, r)
 
-branch-misplaced' : (x : Branch) (bs : List Box) → misplaced (branch x) bs ≡ (not (fitsInnermost (branch x) bs) || elseSeen bs)
+branch-misplaced' : (x : Branch) (bs : List Box) → misplaced (branch x) bs ≡ (not (fitsInnermost (branch x) bs) || elseInnermost bs)
 branch-misplaced' x [] = refl
 branch-misplaced' x (b ∷ bs) = or-false _
 
-pub branch-misplaced : (x : Item) (bs : List Box) {y : Branch} → x ≡ branch y → misplaced x bs ≡ (not (fitsInnermost x bs) || elseSeen bs)
+pub branch-misplaced : (x : Item) (bs : List Box) {y : Branch} → x ≡ branch y → misplaced x bs ≡ (not (fitsInnermost x bs) || elseInnermost bs)
 branch-misplaced x bs {y} e = rw e (branch-misplaced' y bs)
 
 close-misplaced' : (x : Close) (bs : List Box) → misplaced (closes x) bs ≡ not (fitsInnermost (closes x) bs)

@@ -6,4 +6,5 @@ pub mod Rows
 pub mod Way
 pub mod Tight
 pub mod Pairs
+pub mod Placed
 pub mod Mated

@@ -1,6 +1,6 @@
 -- Every mark of an accepted table has its mate. Assumes nothing.
 use Prim.Native.Nat.{ℕ, zero, suc, _+_, _<_}
-use mathlib.Core.Path.{_≡_, refl, sym, _∙_, subst}
+use mathlib.Core.Path.{_≡_, refl, sym, ap, _∙_, subst}
 use mathlib.Core.Bool.{Bool, true, false, not, _&&_, _||_, cond}
 use mathlib.Core.List.{List, [], _∷_}
 use mathlib.Core.Option.{Option, some}
@@ -11,13 +11,14 @@ use lib.ListN.{length, take, drop, replicate}
 use borrow.Author.Tests.{eq-eqb}
 use Rattle.rules.specs.Words.{Item, act, pack, opens, branch, closes, breakloop, tag, Script, unknown}
 use Rattle.table.specs.Item.{isOpen, isBranch, isClose, fits}
-use Rattle.table.specs.Uses.{Kinds, first}
+use Rattle.table.specs.Uses.{Kinds, lowest}
 use Rattle.table.specs.Shape.{itemsOf, inShape}
 use Rattle.mates.specs.declared.Open.{Open}
 use Rattle.mates.specs.Mates.{fitsTop, scan, scanAll, belongs, closeFrom, itemAt}
-use Rattle.rules.specs.Check.{Box, State, begin, kindsOf, isEmpty, misplaced, refusals, refusalsAtEnd, after, Verdict, accepted, refused, orGo, walk, atLine, walked, verdict}
+use Rattle.rules.specs.Check.{State, kindsOf, isEmpty, misplaced, refusals, refusalsAtEnd, Verdict, accepted, refused, orGo, walk, atLine, walked, verdict}
 use Rattle.rules.specs.Mated.{isFound, Mated}
 use Rattle.rules.proofs.Rows.{no-refusal, no-refusal-at-end}
+use Rattle.rules.proofs.Placed.{Box, Placed, atStart, placed, plains, bare, after, same-walk}
 
 no : {X : Type 0} → true ≡ false → X
 no e = absurd (subst T e tt)
@@ -32,19 +33,19 @@ opensOf [] = []
 opensOf (b ∷ bs) = record { at = b .at; sort = b .sort } ∷ opensOf bs
 
 -- an item that is not misplaced leaves the boxes open that the text leaves open
-same-open : (i : ℕ) (s : State) (x : Item) → misplaced x (s .boxes) ≡ false → opensOf (after i s x .boxes) ≡ scan i x (opensOf (s .boxes))
+same-open : (i : ℕ) (s : Placed) (x : Item) → misplaced x (plains (s .boxes)) ≡ false → opensOf (after i s x .boxes) ≡ scan i x (opensOf (s .boxes))
 same-open i s (act a) e = refl
 same-open i s (pack p) e = refl
 same-open i s (opens h) e = refl
 same-open i s (branch b) e = by (s .boxes)
   where
-    by : (bs : List Box) → opensOf (after i (record { sure = s .sure; boxes = bs; packed = s .packed; tagged = s .tagged }) (branch b) .boxes) ≡ opensOf bs
+    by : (bs : List Box) → opensOf (after i (placed (s .sure) bs s) (branch b) .boxes) ≡ opensOf bs
     by [] = refl
     by (x ∷ bs) = refl
 same-open i s (closes e') e = by (s .boxes) e
   where
-    by : (bs : List Box) → misplaced (closes e') bs ≡ false
-        → opensOf (after i (record { sure = s .sure; boxes = bs; packed = s .packed; tagged = s .tagged }) (closes e') .boxes) ≡ scan i (closes e') (opensOf bs)
+    by : (bs : List Box) → misplaced (closes e') (plains bs) ≡ false
+        → opensOf (after i (placed (s .sure) bs s) (closes e') .boxes) ≡ scan i (closes e') (opensOf bs)
     by [] d = no d
     by (x ∷ bs) d = rw (fitting (fits (closes e') (x .sort)) d)
       where
@@ -56,7 +57,7 @@ same-open i s tag e = refl
 
 -- ---- a mark that is not misplaced belongs to the innermost open box
 
-belongs-inner : (x : Item) (bs : List Box) → misplaced x bs ≡ false → (isBranch x || isClose x) ≡ true → fitsTop x (opensOf bs) ≡ true
+belongs-inner : (x : Item) (bs : List Box) → misplaced x (plains bs) ≡ false → (isBranch x || isClose x) ≡ true → fitsTop x (opensOf bs) ≡ true
 belongs-inner x [] e m = no (sym (left-true (isBranch x || isClose x) _ m) ∙ e)
   where
     left-true : (a b : Bool) → a ≡ true → (a || b) ≡ true
@@ -101,26 +102,25 @@ still p i tag st f e h = h
 
 module _ (k : Kinds) where
   -- one item of an accepted row
-  one : (i : ℕ) (s : State) (x : Item) (xs : List Item) → walk k i s (x ∷ xs) ≡ accepted → (misplaced x (s .boxes) ≡ false) × (walk k (suc i) (after i s x) xs ≡ accepted)
+  one : (i : ℕ) (s : Placed) (x : Item) (xs : List Item) → walk k i (bare s) (x ∷ xs) ≡ accepted → (misplaced x (plains (s .boxes)) ≡ false) × (walk k (suc i) (bare (after i s x)) xs ≡ accepted)
   one i s x xs e =
-      let d : (first (refusals k s x) ≡ 0) × (walk k (suc i) (after i s x) xs ≡ accepted) =
-      orGo-accepted (first (refusals k s x)) i (walk k (suc i) (after i s x) xs) e in
-      (no-refusal k s x (d .0) .1 .1 .0, d .1)
+      let d = orGo-accepted (lowest (refusals k (bare s) x)) i _ e in
+      (no-refusal k (bare s) x (d .0) .1 .1 .0, ap (λ (z : State). walk k (suc i) z xs) (same-walk i s x) ∙ d .1)
 
-  none-left : (i : ℕ) (s : State) (p : ℕ) → walk k i s [] ≡ accepted → hasAt p (opensOf (s .boxes)) ≡ true → ⊥
+  none-left : (i : ℕ) (s : Placed) (p : ℕ) → walk k i (bare s) [] ≡ accepted → hasAt p (opensOf (s .boxes)) ≡ true → ⊥
   none-left i s p e h =
-      let d : (first (refusalsAtEnd s) ≡ 0) × (accepted ≡ accepted) = orGo-accepted (first (refusalsAtEnd s)) i accepted e in
-      nothing (s .boxes) (no-refusal-at-end s (d .0) .0) h
+      let d : (lowest (refusalsAtEnd (bare s)) ≡ 0) × (accepted ≡ accepted) = orGo-accepted (lowest (refusalsAtEnd (bare s))) i accepted e in
+      nothing (s .boxes) (no-refusal-at-end (bare s) (d .0) .0) h
     where
-      nothing : (bs : List Box) → not (isEmpty bs) ≡ false → hasAt p (opensOf bs) ≡ true → ⊥
+      nothing : (bs : List Box) → not (isEmpty (plains bs)) ≡ false → hasAt p (opensOf bs) ≡ true → ⊥
       nothing [] e h = no (sym h)
       nothing (b ∷ bs) e h = no e
 
-  closed-later : (p i : ℕ) (s : State) (xs : List Item) → walk k i s xs ≡ accepted → hasAt p (opensOf (s .boxes)) ≡ true
+  closed-later : (p i : ℕ) (s : Placed) (xs : List Item) → walk k i (bare s) xs ≡ accepted → hasAt p (opensOf (s .boxes)) ≡ true
       → isFound (closeFrom p i (opensOf (s .boxes)) xs) ≡ true
   closed-later p i s [] e h = absurd (none-left i s p e h)
   closed-later p i s (x ∷ xs) e h =
-      let d : (misplaced x (s .boxes) ≡ false) × (walk k (suc i) (after i s x) xs ≡ accepted) = one i s x xs e in
+      let d : (misplaced x (plains (s .boxes)) ≡ false) × (walk k (suc i) (bare (after i s x)) xs ≡ accepted) = one i s x xs e in
       let o : opensOf (after i s x .boxes) ≡ scan i x (opensOf (s .boxes)) = same-open i s x (d .0) in
       found-or (isClose x && belongs p x (opensOf (s .boxes))) i (closeFrom p (suc i) (scan i x (opensOf (s .boxes))) xs)
       (λ n. subst (λ (st : List Open). isFound (closeFrom p (suc i) st xs) ≡ true) o
@@ -128,7 +128,7 @@ module _ (k : Kinds) where
       (rw o (still p i x (opensOf (s .boxes)) (belongs-inner x (s .boxes) (d .0)) n h))))
 
   -- an opening mark is followed by its closing mark
-  opened : (i : ℕ) (s : State) (x : Item) (xs : List Item) → walk k i s (x ∷ xs) ≡ accepted → isOpen x ≡ true
+  opened : (i : ℕ) (s : Placed) (x : Item) (xs : List Item) → walk k i (bare s) (x ∷ xs) ≡ accepted → isOpen x ≡ true
       → isFound (closeFrom i i (opensOf (s .boxes)) (x ∷ xs)) ≡ true
   opened i s (act a) xs e h = no (sym h)
   opened i s (pack a) xs e h = no (sym h)
@@ -140,7 +140,7 @@ module _ (k : Kinds) where
 
   -- ---- at any place of an accepted row that starts at item i in s
 
-  inner-at : (j i : ℕ) (s : State) (xs : List Item) → walk k i s xs ≡ accepted → j < length xs
+  inner-at : (j i : ℕ) (s : Placed) (xs : List Item) → walk k i (bare s) xs ≡ accepted → j < length xs
       → (isBranch (itemAt xs j) || isClose (itemAt xs j)) ≡ true → fitsTop (itemAt xs j) (scanAll i (opensOf (s .boxes)) (take j xs)) ≡ true
   inner-at j i s [] e h m = absurd (not-suc-le-zero h)
   inner-at zero i s (x ∷ xs) e h m = belongs-inner x (s .boxes) (one i s x xs e .0) m
@@ -148,7 +148,7 @@ module _ (k : Kinds) where
       subst (λ (st : List Open). fitsTop (itemAt xs j) (scanAll (suc i) st (take j xs)) ≡ true) (same-open i s x (one i s x xs e .0))
       (inner-at j (suc i) (after i s x) xs (one i s x xs e .1) (le-of-suc-le-suc h) m)
 
-  closing-at : (j i : ℕ) (s : State) (xs : List Item) → walk k i s xs ≡ accepted → j < length xs → isOpen (itemAt xs j) ≡ true
+  closing-at : (j i : ℕ) (s : Placed) (xs : List Item) → walk k i (bare s) xs ≡ accepted → j < length xs → isOpen (itemAt xs j) ≡ true
       → isFound (closeFrom (j + i) (j + i) (scanAll i (opensOf (s .boxes)) (take j xs)) (drop j xs)) ≡ true
   closing-at j i s [] e h m = absurd (not-suc-le-zero h)
   closing-at zero i s (x ∷ xs) e h m = rw (zero-add i) (opened i s x xs e m)
@@ -163,8 +163,8 @@ kinds t = kindsOf (replicate 32 unknown) (itemsOf t)
 pub accepted-mated : (size : ℕ) (t : Script) → verdict size t ≡ accepted → Mated (itemsOf t)
 unfolding verdict
 accepted-mated size t e = record {
-  inner = λ i h m. inner-at (kinds t) i 0 begin (itemsOf t) walks h m;
-  closing = λ i h m. rw (add-zero i) at (closing-at (kinds t) i 0 begin (itemsOf t) walks h m);
+  inner = λ i h m. inner-at (kinds t) i 0 atStart (itemsOf t) walks h m;
+  closing = λ i h m. rw (add-zero i) at (closing-at (kinds t) i 0 atStart (itemsOf t) walks h m);
 }
   where
     by-line : (v : Verdict) → atLine t v ≡ accepted → v ≡ accepted

@@ -8,13 +8,13 @@ use native.Mathlib.Numerals.{add-one}
 use lib.ListN.{length, getD, drop, replicate}
 use borrow.Author.Tests.{leb-true}
 use Rattle.rules.specs.Words.{Item, Slot, Script, unknown}
-use Rattle.table.specs.Uses.{Kinds, first}
+use Rattle.table.specs.Uses.{Kinds, lowest}
 use Rattle.table.specs.Shape.{noSlot, itemsIn, itemsOf, inShape}
 use Rattle.table.proofs.Items.{drop-items, no-items}
 use Rattle.rules.specs.Check.{State, begin, kindsOf, refusals, refusalsAtEnd, after, Verdict, accepted, refused, orGo, walk, lineOf, atLine, verdict}
-use Rattle.rules.specs.Standing.{Standing, stateOf}
+use Rattle.rules.specs.Code.{Standing, stateOf}
 use Rattle.rules.specs.Verdict.{Rule, Shape, Kinds as WrongKinds, Unwritten, Mark, Ninth, Package, Tag, SameName, Nested, Finding, Nothing, Broken, numberOf, found}
-use Rattle.rules.specs.Walk.{Walk, restOf, comeTo, outcome, Taken, Went, Took}
+use Rattle.rules.specs.Code.{Walk, restOf, comeTo, outcome, Taken, Went, Took}
 
 pub not-nothing : {X : Type 0} {f : Finding} {r : Rule} → f ≡ Broken r → f ≡ Nothing → X
 not-nothing {f = f} e n =
@@ -28,10 +28,10 @@ module _ (n : ℕ) (ss : List Slot) (k : Kinds) (i : ℕ) (st : State) where
   -- one item further, the verdict to come is the same
   rest-next : i < n → n ≤ length ss
       → walk k i st (drop i (itemsIn n ss))
-      ≡ orGo (first (refusals k st ((getD ss i noSlot) .item))) i (walk k (i + 1) (after i st ((getD ss i noSlot) .item)) (drop (i + 1) (itemsIn n ss)))
+      ≡ orGo (lowest (refusals k st ((getD ss i noSlot) .item))) i (walk k (i + 1) (after st ((getD ss i noSlot) .item)) (drop (i + 1) (itemsIn n ss)))
   rest-next h l = rw (drop-items n i ss h l, add-one)
 
-  rest-end : n ≤ i → walk k i st (drop i (itemsIn n ss)) ≡ orGo (first (refusalsAtEnd st)) i accepted
+  rest-end : n ≤ i → walk k i st (drop i (itemsIn n ss)) ≡ orGo (lowest (refusalsAtEnd st)) i accepted
   rest-end h = rw (no-items n i ss h)
 
 orGo-same : (k i : ℕ) (u v : Verdict) → (k ≡ 0 → ⊥) → orGo k i u ≡ orGo k i v
@@ -123,7 +123,7 @@ pub refused-there : {t : Script} {k : Kinds} {i : ℕ} {s : Standing} {r : Walk}
 unfolding comeTo
 refused-there {r = r} w e = orGo-same (found (r .finding)) (r .at) _ _ (positive e) ∙ w .same
 
-pub at-end : (t : Script) (k : Kinds) (i : ℕ) (z : Standing) (f : Finding) → t .count ≤ i → found f ≡ first (refusalsAtEnd (stateOf z))
+pub at-end : (t : Script) (k : Kinds) (i : ℕ) (z : Standing) (f : Finding) → t .count ≤ i → found f ≡ lowest (refusalsAtEnd (stateOf z))
     → orGo (found f) i accepted ≡ restOf t k i z
 unfolding restOf
 at-end t k i z f h e = rw (rest-end (t .count) (t .items) k i (stateOf z) h, e)

@@ -5,9 +5,15 @@ use mathlib.Core.Bool.{Bool, true, false, not, _&&_, _||_, cond}
 use mathlib.Core.List.{List, [], _∷_}
 use lib.Dec.{eqb, ltb, leb}
 use lib.ListN.{length, set, replicate}
-use Rattle.rules.specs.Words.{Item, act, pack, opens, branch, closes, breakloop, tag, Branch, Script, Sort, ifBox, loopBox, sweepBox, Known, unknown, known, realKind, Give, like, float}
+use Rattle.rules.specs.Words.{Act, var, store, copy, calc, meas, timerGet, sendString, wait, setE}
+use Rattle.rules.specs.Words.{setMode, timerStart, cellOn, cellOff, abort}
+use Rattle.rules.specs.Words.{Head, if', loop, sweep, Branch, Script}
+use Rattle.rules.specs.Words.{Item, act, pack, opens, branch, closes, breakloop, tag}
+use Rattle.rules.specs.Words.{Sort, ifBox, loopBox, sweepBox, Known, unknown, known, realKind}
+use Rattle.rules.specs.Words.{Give, like, float}
 use Rattle.table.specs.Item.{sortOf, isOpen, isBranch, isClose, isBreak, isTag, isElse, isLoop, isSweep, opensA, fits}
-use Rattle.table.specs.Uses.{Kinds, kindAt, kindIn, Names, has, uses, gives, actGives, headGives, wrong, wrongGive, missing, breaksOrder, packs, first}
+use Rattle.table.specs.Uses.{Kinds, kindAt, kindIn, Names, has, uses, gives, actGives, headGives, wrong, wrongGive}
+use Rattle.table.specs.Uses.{missing, breaksOrder, packs, lowest}
 use Rattle.table.specs.Shape.{slotAt, itemsOf, inShape}
 pub use Rattle.rules.specs.declared.OpenBox.{OpenBox as Box}
 
@@ -30,8 +36,40 @@ put s [] = s
 put s (like n x ∷ gs) = put (set s n true) gs
 put s (float n ∷ gs) = put (set s n true) gs
 
--- ---- kinds: that of the first writing in text order. Arithmetic writes a name with its own kind, a copy with its source's: none where that is unknown.
+-- ---- kinds: "a name's kind is that of its first writing in text order, passing over arithmetic and any copy whose
+-- source has no kind from earlier lines"
 
+abbrev pub isKnown : Known → Bool
+isKnown unknown = false
+isKnown (known j) = true
+
+-- arithmetic, and a copy whose source has no kind
+abbrev pub passedAct : Kinds → Act → Bool
+passedAct k (var v) = false
+passedAct k (store v l t) = false
+passedAct k (copy a b) = not (isKnown (kindAt k a))
+passedAct k (calc o v x) = true
+passedAct k (meas f v t) = false
+passedAct k (timerGet v) = false
+passedAct k (sendString s) = false
+passedAct k (wait f) = false
+passedAct k (setE f) = false
+passedAct k (setMode n) = false
+passedAct k timerStart = false
+passedAct k cellOn = false
+passedAct k cellOff = false
+passedAct k abort = false
+
+abbrev pub passedOver : Kinds → Item → Bool
+passedOver k (act a) = passedAct k a
+passedOver k (pack p) = false
+passedOver k (opens h) = false
+passedOver k (branch b) = false
+passedOver k (closes e) = false
+passedOver k breakloop = false
+passedOver k tag = false
+
+-- the first writing: a name that has a kind keeps it
 abbrev pub orElse : Known → Known → Known
 orElse unknown k = k
 orElse (known j) k = known j
@@ -41,18 +79,27 @@ learn k [] = k
 learn k (like n x ∷ gs) = learn (set k n (orElse (kindAt k n) (kindIn (kindAt k) x))) gs
 learn k (float n ∷ gs) = learn (set k n (orElse (kindAt k n) (known realKind))) gs
 
+abbrev pub learnItem : Kinds → Item → Kinds
+learnItem k x = cond (passedOver k x) k (learn k (gives x))
+
 abbrev pub kindsOf : Kinds → List Item → Kinds
 kindsOf k [] = k
-kindsOf k (x ∷ xs) = kindsOf (learn k (gives x)) xs
+kindsOf k (x ∷ xs) = kindsOf (learnItem k x) xs
 
 -- ---- the state: what is surely written; the open boxes, innermost first; whether a package is open; whether the tag was seen.
--- An open box: the item that opens it, its sort, what held before it, what holds at the end of every branch so far, and whether else was seen.
+-- An open box: its sort, what held before it, what holds at the end of every branch so far, and whether else was seen.
 
 pub record State : Type 0 where
   pub sure : Names
   pub boxes : List Box
   pub packed : Bool
   pub tagged : Bool
+
+abbrev pub everyEnd : Box → Names
+everyEnd b = b .«every_end»
+
+abbrev pub elseSeen : Box → Bool
+elseSeen b = b .«else_seen»
 
 abbrev pub begin : State
 begin = record { sure = nothing; boxes = []; packed = false; tagged = false }
@@ -81,16 +128,23 @@ abbrev pub misplaced : Item → List Box → Bool
 misplaced x [] = isBranch x || isClose x || isBreak x
 misplaced x (b ∷ bs) =
     (isBranch x || isClose x) && not (fits x (b .sort))
-    || isBranch x && b .last
+    || isBranch x && elseSeen b
     || isBreak x && not (anyBox isLoop (b ∷ bs))
 
--- 25: the two floats of a point go to one name
-abbrev pub twice : List Give → Bool
-twice [] = false
-twice (like n x ∷ gs) = false
-twice (float n ∷ []) = false
-twice (float n ∷ like k x ∷ gs) = false
-twice (float n ∷ float k ∷ gs) = eqb n k
+-- 25: the same name twice in meas_loop_lsv
+abbrev pub sameIn : Head → Bool
+sameIn (if' c) = false
+sameIn (loop c) = false
+sameIn (sweep w) = eqb (w .potential) (w .current)
+
+abbrev pub sameName : Item → Bool
+sameName (act a) = false
+sameName (pack p) = false
+sameName (opens h) = sameIn h
+sameName (branch b) = false
+sameName (closes e) = false
+sameName breakloop = false
+sameName tag = false
 
 abbrev pub refusals : Kinds → State → Item → List (ℕ × Bool)
 refusals k s x =
@@ -100,7 +154,7 @@ refusals k s x =
     ∷ (22, isOpen x && leb 8 (length (s .boxes)))
     ∷ (23, breaksOrder x (s .packed))
     ∷ (24, isTag x && (s .tagged || not (isEmpty (s .boxes))))
-    ∷ (25, twice (gives x))
+    ∷ (25, sameName x)
     ∷ (26, opensA isSweep x && anyBox isSweep (s .boxes))
     ∷ []
 
@@ -111,39 +165,45 @@ refusalsAtEnd s = (21, not (isEmpty (s .boxes))) ∷ (23, s .packed) ∷ []
 -- ---- the state after an item
 
 -- after endif, what holds at the end of every branch, a missing else being an empty branch; after any loop, what held before it
-abbrev pub left : Sort → Box → Names → Names
-left ifBox b s = both (both (b .meet) s) (cond (b .last) everything (b .before))
-left loopBox b s = b .before
-left sweepBox b s = b .before
+abbrev pub afterBox : Sort → Box → Names → Names
+afterBox ifBox b s = both (both (everyEnd b) s) (cond (elseSeen b) everything (b .before))
+afterBox loopBox b s = b .before
+afterBox sweepBox b s = b .before
 
 -- each branch starts with what held before its if
 abbrev pub branched : Branch → State → List Box → State
 branched x s [] = s
 branched x s (b ∷ bs) = record {
   sure = b .before;
-  boxes = record { at = b .at; sort = b .sort; before = b .before; meet = both (b .meet) (s .sure); last = isElse x } ∷ bs;
+  boxes = record {
+    sort = b .sort;
+    before = b .before;
+    «every_end» = both (everyEnd b) (s .sure);
+    «else_seen» = isElse x;
+  } ∷ bs;
   packed = s .packed;
   tagged = s .tagged;
 }
 
 abbrev pub closed : State → List Box → State
 closed s [] = s
-closed s (b ∷ bs) = record { sure = left (b .sort) b (s .sure); boxes = bs; packed = s .packed; tagged = s .tagged }
+closed s (b ∷ bs) = record { sure = afterBox (b .sort) b (s .sure); boxes = bs; packed = s .packed; tagged = s .tagged }
 
--- item i: a loop body starts with what held before it, plus both names for a measuring loop; at the tag nothing is surely written
-abbrev pub after : ℕ → State → Item → State
-after i s (act a) = record { sure = put (s .sure) (actGives a); boxes = s .boxes; packed = s .packed; tagged = s .tagged }
-after i s (pack p) = record { sure = s .sure; boxes = s .boxes; packed = packs p (s .packed); tagged = s .tagged }
-after i s (opens h) = record {
+-- a loop body starts with what held before it, plus both names for a measuring loop; at the tag nothing is surely
+-- written
+abbrev pub after : State → Item → State
+after s (act a) = record { sure = put (s .sure) (actGives a); boxes = s .boxes; packed = s .packed; tagged = s .tagged }
+after s (pack p) = record { sure = s .sure; boxes = s .boxes; packed = packs p (s .packed); tagged = s .tagged }
+after s (opens h) = record {
   sure = put (s .sure) (headGives h);
-  boxes = record { at = i; sort = sortOf h; before = s .sure; meet = everything; last = false } ∷ s .boxes;
+  boxes = record { sort = sortOf h; before = s .sure; «every_end» = everything; «else_seen» = false } ∷ s .boxes;
   packed = s .packed;
   tagged = s .tagged;
 }
-after i s (branch b) = branched b s (s .boxes)
-after i s (closes e) = closed s (s .boxes)
-after i s breakloop = s
-after i s tag = record { sure = nothing; boxes = s .boxes; packed = s .packed; tagged = true }
+after s (branch b) = branched b s (s .boxes)
+after s (closes e) = closed s (s .boxes)
+after s breakloop = s
+after s tag = record { sure = nothing; boxes = s .boxes; packed = s .packed; tagged = true }
 
 -- ---- the verdict: accepted, or a refusal's number and place. The walk's place is the item's number, the count of items at the end.
 
@@ -156,8 +216,8 @@ orGo zero i v = v
 orGo (suc n) i v = refused (suc n) i
 
 abbrev pub walk : Kinds → ℕ → State → List Item → Verdict
-walk k i s [] = orGo (first (refusalsAtEnd s)) i accepted
-walk k i s (x ∷ xs) = orGo (first (refusals k s x)) i (walk k (suc i) (after i s x) xs)
+walk k i s [] = orGo (lowest (refusalsAtEnd s)) i accepted
+walk k i s (x ∷ xs) = orGo (lowest (refusals k s x)) i (walk k (suc i) (after s x) xs)
 
 -- the line of item i, or the ending line
 abbrev pub lineOf : Script → ℕ → ℕ

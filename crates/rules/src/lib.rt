@@ -6,12 +6,13 @@ ghost use Prim.Native.Nat.{_≤_, _<_};
 ghost use lib.Dec.{leb};
 ghost use lib.ListN.{length, set, replicate};
 ghost use Rattle.table.specs.Item.{isOpen, isSweep, isTag, isElse, opensA};
-ghost use Rattle.table.specs.Uses.{kindAt, has, uses, gives, headGives, wrong, wrongGive, missing, first, allGives};
+ghost use Rattle.table.specs.Uses.{kindAt, has, uses, gives, headGives, wrong, wrongGive, missing, lowest};
+ghost use Rattle.table.specs.Code.{allGives};
 ghost use Rattle.table.specs.Shape.{itemsOf};
-ghost use Rattle.rules.specs.Check.{begin, both, put, orElse, learn, kindsOf, anyBox, base, misplaced, twice, isEmpty, refusals, refusalsAtEnd, left, closed, everything, after, walk, lineOf, verdict};
-ghost use Rattle.rules.specs.Standing.{stateOf, rowsOf, asked, fitsInnermost, elseSeen, afterWrites};
+ghost use Rattle.rules.specs.Check.{begin, both, put, orElse, learn, kindsOf, anyBox, base, misplaced, sameIn, sameName, isEmpty, refusals, refusalsAtEnd, afterBox, closed, everything, after, walk, lineOf, verdict};
+ghost use Rattle.rules.specs.Code.{stateOf, rowsOf, asked, fitsInnermost, elseInnermost, afterWrites};
+ghost use Rattle.rules.specs.Code.{outcome, Taken, Went, Took};
 ghost use Rattle.rules.specs.Verdict.{numberOf, found, meaning};
-ghost use Rattle.rules.specs.Walk.{outcome, Taken, Went, Took};
 use table::Branch;
 use table::Give;
 use table::Gives;
@@ -52,14 +53,13 @@ pub enum Verdict {
     Refused(Rule, usize),
 }
 
-// A box that is open where the checker stands: the item that opens it, its sort, what held before it, what holds at the
-// end of every branch so far, and whether else was seen.
+// A box that is open where the checker stands: its sort, what held before it, what holds at the end of every branch so
+// far, and whether else was seen.
 pub struct OpenBox {
-    pub at: usize,
     pub sort: Sort,
     pub before: [bool; NAMES],
-    pub meet: [bool; NAMES],
-    pub last: bool,
+    pub every_end: [bool; NAMES],
+    pub else_seen: bool,
 }
 
 // What holds where the checker stands: the names surely written, the open boxes, outermost first, and their number,
@@ -207,7 +207,9 @@ fn learn_written(kinds: [Known; NAMES], gives: Gives) -> [Known; NAMES]
     }
 }
 
-// The kinds' pass, before any rule is judged. The table is read in place: handed to a function it would be copied whole.
+// The kinds' pass, before any rule is judged. Arithmetic and a copy whose source has no kind write a name with a kind
+// that is its own already or that nobody knows, so they teach nothing. The table is read in place: handed to a function
+// it would be copied whole.
 fn kinds_of(script: Script) -> [Known; NAMES]
     requires { ⌜ script .count ≤ 128 ⌝ }
     ensures { λ r. ⌜ r ≡ kindsOf (replicate 32 Known.Unknown) (itemsOf script) ⌝ }
@@ -302,14 +304,14 @@ fn fits_innermost(s: Standing, item: Item) -> bool
 
 fn else_seen(s: Standing) -> bool
     requires { ⌜ s .depth ≤ 8 ⌝ }
-    ensures { λ r. ⌜ r ≡ elseSeen (stateOf s .boxes) ⌝ }
+    ensures { λ r. ⌜ r ≡ elseInnermost (stateOf s .boxes) ⌝ }
 {
     let depth = s.depth;
     if depth == 0 {
         return false;
     }
     let b = s.boxes[depth - 1];
-    b.last
+    b.else_seen
 }
 
 fn misplaced_mark(s: Standing, item: Item) -> bool
@@ -356,13 +358,27 @@ fn misplaced_tag(s: Standing, item: Item) -> bool
     }
 }
 
-fn same_name(gives: Gives) -> bool
-    ensures { λ r. ⌜ r ≡ twice (allGives gives) ⌝ }
+fn same_in(head: Head) -> bool
+    ensures { λ r. ⌜ r ≡ sameIn head ⌝ }
 {
-    match gives {
-        Gives::Nothing => false,
-        Gives::One(_) => false,
-        Gives::TwoFloats(a, b) => a == b,
+    match head {
+        Head::If(_) => false,
+        Head::Loop(_) => false,
+        Head::Sweep(w) => w.potential == w.current,
+    }
+}
+
+fn same_name(item: Item) -> bool
+    ensures { λ r. ⌜ r ≡ sameName item ⌝ }
+{
+    match item {
+        Item::Act(_) => false,
+        Item::Pack(_) => false,
+        Item::Open(h) => same_in(h),
+        Item::Branch(_) => false,
+        Item::Close(_) => false,
+        Item::Break => false,
+        Item::Tag => false,
     }
 }
 
@@ -400,13 +416,13 @@ fn tests_of(kinds: [Known; NAMES], s: Standing, item: Item) -> Tests
         ninth: ninth_box(depth, item),
         order: table::breaks_order(item, packed),
         tag: misplaced_tag(s, item),
-        twice: same_name(table::writes(item)),
+        twice: same_name(item),
         nested: nested_sweep(s, item),
     }
 }
 
 fn lowest(tests: Tests) -> Finding
-    ensures { λ r. ⌜ found r ≡ first (rowsOf tests) ⌝ }
+    ensures { λ r. ⌜ found r ≡ lowest (rowsOf tests) ⌝ }
 {
     if tests.kinds {
         return Finding::Broken(Rule::Kinds);
@@ -438,13 +454,13 @@ fn lowest(tests: Tests) -> Finding
 // The lowest rule that the item breaks.
 fn judge(kinds: [Known; NAMES], s: Standing, item: Item) -> Finding
     requires { ⌜ s .depth ≤ 8 ⌝ }
-    ensures { λ r. ⌜ found r ≡ first (refusals kinds (stateOf s) item) ⌝ }
+    ensures { λ r. ⌜ found r ≡ lowest (refusals kinds (stateOf s) item) ⌝ }
 {
     lowest(tests_of(kinds, s, item))
 }
 
 fn judge_end(s: Standing) -> Finding
-    ensures { λ r. ⌜ found r ≡ first (refusalsAtEnd (stateOf s)) ⌝ }
+    ensures { λ r. ⌜ found r ≡ lowest (refusalsAtEnd (stateOf s)) ⌝ }
 {
     let packed = s.packed;
     if box_open(s) {
@@ -463,11 +479,10 @@ fn start() -> Standing
 {
     let none = [false; NAMES];
     let unused = OpenBox {
-        at: 0,
         sort: Sort::If,
         before: none,
-        meet: none,
-        last: false,
+        every_end: none,
+        else_seen: false,
     };
     Standing {
         sure: none,
@@ -489,7 +504,7 @@ fn after_act(s: Standing, gives: Gives) -> Standing
 }
 
 fn after_pack(s: Standing, pack: Pack) -> Standing
-    ensures { λ r. ⌜ (stateOf r ≡ after 0 (stateOf s) (Item.Pack pack)) × (r .depth ≡ s .depth) ⌝ }
+    ensures { λ r. ⌜ (stateOf r ≡ after (stateOf s) (Item.Pack pack)) × (r .depth ≡ s .depth) ⌝ }
 {
     let mut t = s;
     match pack {
@@ -505,9 +520,9 @@ fn after_pack(s: Standing, pack: Pack) -> Standing
     }
 }
 
-fn after_open(s: Standing, at: usize, head: Head, gives: Gives) -> Standing
+fn after_open(s: Standing, head: Head, gives: Gives) -> Standing
     requires { ⌜ (s .depth < 8) × (allGives gives ≡ headGives head) ⌝ }
-    ensures { λ r. ⌜ (stateOf r ≡ after at (stateOf s) (Item.Open head)) × (r .depth ≤ 8) ⌝ }
+    ensures { λ r. ⌜ (stateOf r ≡ after (stateOf s) (Item.Open head)) × (r .depth ≤ 8) ⌝ }
 {
     let mut t = s;
     let depth = t.depth;
@@ -515,11 +530,10 @@ fn after_open(s: Standing, at: usize, head: Head, gives: Gives) -> Standing
     let sort = table::sort_of(head);
     let all = [true; NAMES];
     t.boxes[depth] = OpenBox {
-        at: at,
         sort: sort,
         before: held,
-        meet: all,
-        last: false,
+        every_end: all,
+        else_seen: false,
     };
     t.depth = depth + 1;
     let sure = with_written(held, gives);
@@ -538,7 +552,7 @@ fn is_else(branch: Branch) -> bool
 
 fn after_branch(s: Standing, branch: Branch) -> Standing
     requires { ⌜ s .depth ≤ 8 ⌝ }
-    ensures { λ r. ⌜ (stateOf r ≡ after 0 (stateOf s) (Item.Branch branch)) × (r .depth ≡ s .depth) ⌝ }
+    ensures { λ r. ⌜ (stateOf r ≡ after (stateOf s) (Item.Branch branch)) × (r .depth ≡ s .depth) ⌝ }
 {
     let mut t = s;
     let depth = t.depth;
@@ -547,49 +561,47 @@ fn after_branch(s: Standing, branch: Branch) -> Standing
     }
     let sure = t.sure;
     let b = t.boxes[depth - 1];
-    let at = b.at;
     let sort = b.sort;
     let held = b.before;
-    let meet = b.meet;
-    let met = in_both(meet, sure);
-    let last = is_else(branch);
+    let ends = b.every_end;
+    let met = in_both(ends, sure);
+    let seen = is_else(branch);
     t.boxes[depth - 1] = OpenBox {
-        at: at,
         sort: sort,
         before: held,
-        meet: met,
-        last: last,
+        every_end: met,
+        else_seen: seen,
     };
     t.sure = held;
     t
 }
 
 // A missing else is an empty branch.
-fn left_if(
-    meet: [bool; NAMES],
+fn after_if(
+    ends: [bool; NAMES],
     sure: [bool; NAMES],
-    last: bool,
+    seen: bool,
     held: [bool; NAMES],
 ) -> [bool; NAMES]
-    ensures { λ r. ⌜ r ≡ both (both meet sure) (cond last everything held) ⌝ }
+    ensures { λ r. ⌜ r ≡ both (both ends sure) (cond seen everything held) ⌝ }
 {
-    let met = in_both(meet, sure);
-    if last {
+    let met = in_both(ends, sure);
+    if seen {
         let all = [true; NAMES];
         return in_both(met, all);
     }
     in_both(met, held)
 }
 
-fn left_of(b: OpenBox, sure: [bool; NAMES]) -> [bool; NAMES]
-    ensures { λ r. ⌜ r ≡ left (b .sort) b sure ⌝ }
+fn after_box(b: OpenBox, sure: [bool; NAMES]) -> [bool; NAMES]
+    ensures { λ r. ⌜ r ≡ afterBox (b .sort) b sure ⌝ }
 {
     let sort = b.sort;
     let held = b.before;
-    let meet = b.meet;
-    let last = b.last;
+    let ends = b.every_end;
+    let seen = b.else_seen;
     match sort {
-        Sort::If => left_if(meet, sure, last, held),
+        Sort::If => after_if(ends, sure, seen, held),
         Sort::Loop => held,
         Sort::Sweep => held,
     }
@@ -606,14 +618,14 @@ fn after_close(s: Standing) -> Standing
     }
     let sure = t.sure;
     let b = t.boxes[depth - 1];
-    let left = left_of(b, sure);
+    let kept = after_box(b, sure);
     t.depth = depth - 1;
-    t.sure = left;
+    t.sure = kept;
     t
 }
 
 fn after_tag(s: Standing) -> Standing
-    ensures { λ r. ⌜ (stateOf r ≡ after 0 (stateOf s) Item.Tag) × (r .depth ≡ s .depth) ⌝ }
+    ensures { λ r. ⌜ (stateOf r ≡ after (stateOf s) Item.Tag) × (r .depth ≡ s .depth) ⌝ }
 {
     let mut t = s;
     let none = [false; NAMES];
@@ -622,14 +634,14 @@ fn after_tag(s: Standing) -> Standing
     t
 }
 
-fn advance(s: Standing, at: usize, item: Item) -> Standing
+fn advance(s: Standing, item: Item) -> Standing
     requires { ⌜ (s .depth ≤ 8) × ((isOpen item && leb 8 (s .depth)) ≡ false) ⌝ }
-    ensures { λ r. ⌜ (stateOf r ≡ after at (stateOf s) item) × (r .depth ≤ 8) ⌝ }
+    ensures { λ r. ⌜ (stateOf r ≡ after (stateOf s) item) × (r .depth ≤ 8) ⌝ }
 {
     match item {
         Item::Act(_) => after_act(s, table::writes(item)),
         Item::Pack(p) => after_pack(s, p),
-        Item::Open(h) => after_open(s, at, h, table::writes(item)),
+        Item::Open(h) => after_open(s, h, table::writes(item)),
         Item::Branch(b) => after_branch(s, b),
         Item::Close(_) => after_close(s),
         Item::Break => s,
@@ -652,7 +664,7 @@ fn take_item(kinds: [Known; NAMES], s: Standing, at: usize, item: Item) -> Walk
             standing: s,
         },
         Finding::Nothing => {
-            let standing = advance(s, at, item);
+            let standing = advance(s, item);
             let next = at + 1;
             Walk {
                 at: next,

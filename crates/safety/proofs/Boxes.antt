@@ -16,8 +16,8 @@ use Rattle.table.specs.Item.{sortOf, isOpen, isClose, fits}
 use Rattle.table.specs.Uses.{Kinds, Names}
 use Rattle.mates.specs.declared.Open.{Open}
 use Rattle.mates.specs.Mates.{scan, scanAll, boxesAt, belongs, closeFrom, closeOf}
-use Rattle.rules.specs.declared.OpenBox.{OpenBox as Box}
-use Rattle.rules.specs.Check.{State, misplaced, after}
+use Rattle.rules.specs.Check.{misplaced}
+use Rattle.rules.proofs.Placed.{Box, Placed, plains, after}
 use Rattle.safety.proofs.Laws.{no, or-r}
 use Rattle.safety.proofs.Walk.{state, Reach, Clean, closes-fits}
 
@@ -31,7 +31,7 @@ Below n [] = Unit {0}
 Below n (b ∷ bs) = (b .at < n) × Below (b .at) bs
 
 -- the state before a box
-abbrev pub outer : Box → List Box → Bool → State
+abbrev pub outer : Box → List Box → Bool → Placed
 outer b bs tg = state (b .before) bs false tg
 
 -- a box's opening item, and its closing mark still ahead
@@ -70,7 +70,7 @@ module _ (i : ℕ) (su : Names) (p tg : Bool) where
   abbrev boxesAfter : List Box → Item → List Box
   boxesAfter l x = (after i (state su l p tg) x) .boxes
 
-  pub erase-after : (l : List Box) (x : Item) → misplaced x l ≡ false → scan i x (erase l) ≡ erase (boxesAfter l x)
+  pub erase-after : (l : List Box) (x : Item) → misplaced x (plains l) ≡ false → scan i x (erase l) ≡ erase (boxesAfter l x)
   erase-after l (act a) h = refl
   erase-after l (pack q) h = refl
   erase-after l (opens e) h = refl
@@ -135,7 +135,7 @@ not-below e c bs p h = go (fits (closes e) (c .sort))
 module _ (items : List Item) {i : ℕ} {su : Names} {p tg : Bool} {k k₀ : Kinds} {xs : List Item} where
   pub heads-after : (x : Item) (l : List Box) → Reach items i (state su l p tg) k (x ∷ xs) → Clean k₀ (state su l p tg) x
       → drop i items ≡ x ∷ xs → boxesAt items i ≡ erase l → Below i l → Heads items i (erase l) (x ∷ xs) tg l
-      → let s : State = after i (state su l p tg) x in Heads items (suc i) (scan i x (erase l)) xs (s .tagged) (s .boxes)
+      → let s : Placed = after i (state su l p tg) x in Heads items (suc i) (scan i x (erase l)) xs (s .tagged) (s .boxes)
   heads-after (act a) l r c t e w h = heads-map items i i (erase l) (act a) xs tg l w (λ q u. refl) h
   heads-after (pack q) l r c t e w h = heads-map items i i (erase l) (pack q) xs tg l w (λ q u. refl) h
   heads-after (opens d) l r c t e w h = (

@@ -35,7 +35,7 @@ use Rattle.table.specs.Item.{sortOf, isLoop, isSweep, opensA}
 use Rattle.table.specs.Uses.{actGives, headGives, kindOf, differ, Kinds, kindAt, wrongGive, Names, has, gone}
 use Rattle.table.specs.Shape.{givesOk}
 use Rattle.mates.specs.Mates.{itemAt}
-use Rattle.rules.specs.declared.OpenBox.{OpenBox as Box}
+use Rattle.rules.proofs.Placed.{Box}
 use Rattle.rules.specs.Check.{put}
 use Rattle.state.specs.declared.Cell.{Cell}
 use Rattle.state.specs.declared.Cell.the-variants.{Holds as held}
@@ -233,7 +233,7 @@ module _ {names size : ℕ} {items : List Item} (ok : Accepted names size items)
         let f = past-close ok (find-close ok xs {b = branchedBox c b su} (more (h .reach)) here) in
         rw (not-again ok h refl, (static ok (h .reach)) .heads .0 .mate)
         (land ok (f .reach) (inl refl) (h .packed ∙ (clean ok (h .reach)) .packed)
-        (λ n e. h .cover n (both-r (b .meet) su n (f .meets (not-t (isLoop (b .sort)) (branch-fits c b bs ((clean ok (h .reach)) .placed))) n e)))
+        (λ n e. h .cover n (both-r (b .everyEnd) su n (f .meets (not-t (isLoop (b .sort)) (branch-fits c b bs ((clean ok (h .reach)) .placed))) n e)))
         (h .covers .1) (h .vars) (h .living))
 
     close-fine : (e : Close) (l : List Box) {xs : List Item} → Here ok m su l p tg k (closes e ∷ xs) → FineStep (runClose items m e (m .boxes))

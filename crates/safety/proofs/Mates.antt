@@ -19,11 +19,11 @@ use Rattle.table.specs.declared.Sort.{Sort}
 use Rattle.table.specs.declared.Sort.the-variants.{If as ifBox, Loop as loopBox, Sweep as sweepBox}
 use Rattle.table.specs.declared.Want.{Want}
 use Rattle.table.specs.Item.{sortOf, isElse, isLoop, fits}
-use Rattle.table.specs.Uses.{conditionUses, Kinds, kindAt, wrong, Names, has, missing, first}
+use Rattle.table.specs.Uses.{conditionUses, Kinds, kindAt, wrong, Names, has, missing, lowest as first}
 use Rattle.mates.specs.declared.Open.{Open}
 use Rattle.mates.specs.Mates.{belongs, closeFrom, closeOf, past}
-use Rattle.rules.specs.declared.OpenBox.{OpenBox as Box}
-use Rattle.rules.specs.Check.{everything, both, isEmpty, left}
+use Rattle.rules.specs.Check.{everything, both, isEmpty, afterBox}
+use Rattle.rules.proofs.Placed.{Box, plain, plains}
 use Rattle.state.specs.State.{Vars, holds}
 use Rattle.machine.specs.Machine.{readFaults, Chosen, into, beyond, choose}
 use Rattle.safety.proofs.Laws.{no, no′, or-r, Sub, both-l, both-r}
@@ -35,7 +35,7 @@ pub data Under (b : Box) (bs : List Box) : List Box → Type 0 where
   here : Under b bs (b ∷ bs)
   there : {c : Box} {l : List Box} → Under b bs l → Under b bs (c ∷ l)
 
-under-some : {b : Box} {bs l : List Box} → Under b bs l → isEmpty l ≡ false
+under-some : {b : Box} {bs l : List Box} → Under b bs l → isEmpty (plains l) ≡ false
 under-some here = refl
 under-some (there u) = refl
 
@@ -48,7 +48,7 @@ pub record Same (b c : Box) : Type 0 where
   pub at : c .at ≡ b .at
   pub sort : c .sort ≡ b .sort
   pub before : c .before ≡ b .before
-  pub meet : Sub (c .meet) (b .meet)
+  pub meet : Sub (c .everyEnd) (b .everyEnd)
 
 -- the closing mark of the box b over bs is at j
 pub record Closes (items : List Item) (b : Box) (bs : List Box) (found : Option ℕ) : Type 0 where
@@ -72,31 +72,31 @@ pub record Past (items : List Item) (b : Box) (bs : List Box) (i : ℕ) : Type 0
   pub ys : List Item
   pub reach : Reach items i (state su bs false tg) k ys
   pub loops : isLoop (b .sort) ≡ true → Sub su (b .before)
-  pub meets : isLoop (b .sort) ≡ false → Sub su (b .meet)
+  pub meets : isLoop (b .sort) ≡ false → Sub su (b .everyEnd)
 
 -- ---- what holds past a closing mark
 
 -- after a loop, what held before it
-pub left-loop : (o : Sort) (c : Box) (su : Names) → isLoop o ≡ true → Sub (left o c su) (c .before)
+pub left-loop : (o : Sort) (c : Box) (su : Names) → isLoop o ≡ true → Sub (afterBox o (plain c) su) (c .before)
 left-loop ifBox c su e = no′ e
 left-loop loopBox c su e = λ n h. h
 left-loop sweepBox c su e = λ n h. h
 
 -- after endif, what holds at the end of the branches before the last
-left-meet : (o : Sort) (c : Box) (su : Names) → isLoop o ≡ false → Sub (left o c su) (c .meet)
-left-meet ifBox c su e n h = both-l (c .meet) su n (both-l (both (c .meet) su) (cond (c .last) everything (c .before)) n h)
+left-meet : (o : Sort) (c : Box) (su : Names) → isLoop o ≡ false → Sub (afterBox o (plain c) su) (c .everyEnd)
+left-meet ifBox c su e n h = both-l (c .everyEnd) su n (both-l (both (c .everyEnd) su) (cond (c .elseSeen) everything (c .before)) n h)
 left-meet loopBox c su e n h = no e
 left-meet sweepBox c su e n h = no e
 
 -- of the last
-pub left-sure : (o : Sort) (c : Box) (su : Names) → isLoop o ≡ false → Sub (left o c su) su
-left-sure ifBox c su e n h = both-r (c .meet) su n (both-l (both (c .meet) su) (cond (c .last) everything (c .before)) n h)
+pub left-sure : (o : Sort) (c : Box) (su : Names) → isLoop o ≡ false → Sub (afterBox o (plain c) su) su
+left-sure ifBox c su e n h = both-r (c .everyEnd) su n (both-l (both (c .everyEnd) su) (cond (c .elseSeen) everything (c .before)) n h)
 left-sure loopBox c su e n h = no e
 left-sure sweepBox c su e n h = no e
 
 -- and, with no else, what held before the if
-left-before : (o : Sort) (c : Box) (su : Names) → isLoop o ≡ false → c .last ≡ false → Sub (left o c su) (c .before)
-left-before ifBox c su e f n h = rw f at (both-r (both (c .meet) su) (cond (c .last) everything (c .before)) n h)
+left-before : (o : Sort) (c : Box) (su : Names) → isLoop o ≡ false → c .elseSeen ≡ false → Sub (afterBox o (plain c) su) (c .before)
+left-before ifBox c su e f n h = rw f at (both-r (both (c .everyEnd) su) (cond (c .elseSeen) everything (c .before)) n h)
 left-before loopBox c su e f n h = no e
 left-before sweepBox c su e f n h = no e
 
@@ -113,10 +113,10 @@ no-mark x f p (o ∷ st) = rw (f (o .sort))
 
 -- the box over bs after a branch mark
 abbrev pub branchedBox : Branch → Box → Names → Box
-branchedBox x b su = record { at = b .at; sort = b .sort; before = b .before; meet = both (b .meet) su; last = isElse x }
+branchedBox x b su = record { at = b .at; sort = b .sort; before = b .before; everyEnd = both (b .everyEnd) su; elseSeen = isElse x }
 
 abbrev pub boxOf : ℕ → Head → Names → Box
-boxOf i h su = record { at = i; sort = sortOf h; before = su; meet = everything; last = false }
+boxOf i h su = record { at = i; sort = sortOf h; before = su; everyEnd = everything; elseSeen = false }
 
 module _ {names size : ℕ} {items : List Item} (ok : Accepted names size items) where
   pub find-close : (xs : List Item) {i : ℕ} {su : Names} {l : List Box} {p tg : Bool} {k : Kinds} {b : Box} {bs : List Box}
@@ -137,7 +137,7 @@ module _ {names size : ℕ} {items : List Item} (ok : Accepted names size items)
         ys = f .ys;
         c = f .c;
         reach = f .reach;
-        same = record { at = f .same .at; sort = f .same .sort; before = f .same .before; meet = λ n h. both-l (b .meet) su n (f .same .meet n h) };
+        same = record { at = f .same .at; sort = f .same .sort; before = f .same .before; meet = λ n h. both-l (b .everyEnd) su n (f .same .meet n h) };
         is = f .is;
       }
   find-close (branch x ∷ xs) r (there u) = find-close xs (more r) (there u)
@@ -159,13 +159,13 @@ module _ {names size : ℕ} {items : List Item} (ok : Accepted names size items)
       let q : closeFrom (b .at) i (erase (c ∷ d)) (closes x ∷ xs) ≡ closeFrom (b .at) (suc i) (erase d) xs = rw (closes-fits x c d ((clean ok r) .placed), ne-eqb (c .at) (b .at) (λ e. omega arith)) in
       rw q (find-close xs (more r) u)
   find-close (breakloop ∷ xs) r u = find-close xs (more r) u
-  find-close (tag ∷ xs) {l = l} {tg = tg} r u = no (ap not (sym (under-some u)) ∙ or-r tg (not (isEmpty l)) ((clean ok r) .tagged))
+  find-close (tag ∷ xs) {l = l} {tg = tg} r u = no (ap not (sym (under-some u)) ∙ or-r tg (not (isEmpty (plains l))) ((clean ok r) .tagged))
 
   pub past-close : {b : Box} {bs : List Box} {found : Option ℕ} → Closes items b bs found → Past items b bs (past found)
   past-close {b} {bs} f =
       let r : Reach items (f .j) (state (f .su) (f .c ∷ bs) false (f .tg)) (f .k) (closes (f .e) ∷ f .ys) = rw ((clean ok (f .reach)) .packed) at (f .reach) in
       rw (f .is) (record {
-        su = left (f .c .sort) (f .c) (f .su);
+        su = afterBox (f .c .sort) (plain (f .c)) (f .su);
         tg = f .tg;
         k = f .k;
         ys = f .ys;
@@ -198,7 +198,7 @@ module _ {names size : ℕ} {items : List Item} (ok : Accepted names size items)
 
   module _ (vs : Vars) where
     pub choose-good : (xs : List Item) {i : ℕ} {su : Names} {l : List Box} {p tg : Bool} {k : Kinds} {b : Box} {bs : List Box}
-        → Reach items i (state su l p tg) k xs → Under b bs l → b .last ≡ false → isLoop (b .sort) ≡ false → Readable (b .before) vs
+        → Reach items i (state su l p tg) k xs → Under b bs l → b .elseSeen ≡ false → isLoop (b .sort) ≡ false → Readable (b .before) vs
         → Picks items (b .at) (b .before) bs (choose vs (b .at) i (erase l) xs)
     choose-good [] r u e f g = no (sym ((ends ok r) .0) ∙ under-some u)
     choose-good (act a ∷ xs) {l = l} {b = b} r u e f g = rw (no-mark (act a) (λ o. refl) (b .at) (erase l)) (choose-good xs (more r) u e f g)
@@ -220,4 +220,4 @@ module _ {names size : ℕ} {items : List Item} (ok : Accepted names size items)
     choose-good (closes x ∷ xs) r (there {c = c} {l = d} u) e f g =
         rw (other-box (closes x) r u, closes-fits x c d ((clean ok r) .placed)) (choose-good xs (more r) u e f g)
     choose-good (breakloop ∷ xs) {l = l} {b = b} r u e f g = rw (no-mark breakloop (λ o. refl) (b .at) (erase l)) (choose-good xs (more r) u e f g)
-    choose-good (tag ∷ xs) {l = l} {tg = tg} r u e f g = no (ap not (sym (under-some u)) ∙ or-r tg (not (isEmpty l)) ((clean ok r) .tagged))
+    choose-good (tag ∷ xs) {l = l} {tg = tg} r u e f g = no (ap not (sym (under-some u)) ∙ or-r tg (not (isEmpty (plains l))) ((clean ok r) .tagged))

@@ -16,12 +16,13 @@ use Rattle.table.specs.declared.Known.the-variants.{Unknown as unknown, Of as k
 use Rattle.table.specs.declared.Want.{Want}
 use Rattle.table.specs.declared.Want.the-variants.{Any as any, Alike as alike, Float as floats}
 use Rattle.table.specs.Uses.{kindOf, alikeKind, differ, Kinds, kindAt, kindIn, wrong, Names, has, gone, missing}
-use Rattle.rules.specs.declared.OpenBox.{OpenBox as Box}
+use Rattle.rules.specs.Check.{isKnown}
+use Rattle.rules.proofs.Placed.{Box}
 use Rattle.state.specs.declared.Cell.{Cell}
 use Rattle.state.specs.declared.Cell.the-variants.{Unwritten as unwritten, Holds as held}
 use Rattle.state.specs.State.{Vars, cellAt, isWritten, cellKind, cellValue, written, kindNow, cellOk, cellsOk}
 use Rattle.safety.proofs.Laws.{no′, or-l, or-r, or-f, not-f, AfterSet, getD-set, getD-rep}
-use Rattle.safety.proofs.Sure.{isKnown, Within}
+use Rattle.safety.proofs.Sure.{Within}
 
 -- the names of the set are written
 abbrev pub Covers : Names → Vars → Type 0

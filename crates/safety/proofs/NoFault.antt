@@ -13,11 +13,11 @@ use Rattle.table.specs.declared.Item.{Item}
 use Rattle.table.specs.declared.Item.the-variants.{Act as act, Pack as pack, Open as opens, Branch as branch, Close as closes, Break as breakloop, Tag as tag}
 use Rattle.table.specs.declared.Want.{Want}
 use Rattle.table.specs.Item.{isOpen, isBranch, isClose, isBreak, isLoop, opensA, fits}
-use Rattle.table.specs.Uses.{actUses, uses, Kinds, wrong, Names, missing, first}
+use Rattle.table.specs.Uses.{actUses, uses, Kinds, wrong, Names, missing, lowest as first}
 use Rattle.mates.specs.declared.Open.{Open}
 use Rattle.mates.specs.Mates.{boxesAt, closeOf, itemAt}
-use Rattle.rules.specs.declared.OpenBox.{OpenBox as Box}
-use Rattle.rules.specs.Check.{State, anyBox}
+use Rattle.rules.specs.Check.{anyBox}
+use Rattle.rules.proofs.Placed.{Box, Placed, plains}
 use Rattle.state.specs.State.{Vars, written, kindNow, holds, Run}
 use Rattle.machine.specs.Machine.{isEmpty as noneOpen, unwind, inside, isNone, strays, reads, faults, Chosen, choose, badOf, tries}
 use Rattle.safety.proofs.Laws.{no, no′, not-f, drop-getD}
@@ -42,7 +42,7 @@ module _ {names size : ℕ} {items : List Item} (ok : Accepted names size items)
   NoFault ws vs = (missing (written vs) ws ≡ false) × (wrong (kindNow vs) ws ≡ false)
 
   -- the item x reads only what is written, and of the right kinds
-  reads-fine : (x : Item) {s : State} {vs : Vars} → Clean (textKinds items) s x → Knows (textKinds items) (s .sure) vs → NoFault (reads x) vs
+  reads-fine : (x : Item) {s : Placed} {vs : Vars} → Clean (textKinds items) s x → Knows (textKinds items) (s .sure) vs → NoFault (reads x) vs
   reads-fine (act a) c n = (there-now n (actUses a) (c .there), wrong-now n (actUses a) (c .there) ∙ c .kinds)
   reads-fine (pack p) c n = (there-now n (uses (pack p)) (c .there), wrong-now n (uses (pack p)) (c .there) ∙ c .kinds)
   reads-fine (opens h) c n = (there-now n (uses (opens h)) (c .there), wrong-now n (uses (opens h)) (c .there) ∙ c .kinds)
@@ -62,14 +62,14 @@ module _ {names size : ℕ} {items : List Item} (ok : Accepted names size items)
     pub loops : isLoop (b .sort) ≡ true
     pub found : unwind items (positions l) ≡ b .at ∷ positions bs
 
-  pub find-loop : (i : ℕ) (st : List Open) (xs : List Item) (tg : Bool) (l : List Box) → Heads items i st xs tg l → anyBox isLoop l ≡ true → Loop i st xs tg l
+  pub find-loop : (i : ℕ) (st : List Open) (xs : List Item) (tg : Bool) (l : List Box) → Heads items i st xs tg l → anyBox isLoop (plains l) ≡ true → Loop i st xs tg l
   find-loop i st xs tg [] h a = no′ a
   find-loop i st xs tg (b ∷ bs) h a = go (isLoop (b .sort)) refl (λ q. find-loop i st xs tg bs (h .1) q)
     where
       item : opensA isLoop (itemAt items (b .at)) ≡ isLoop (b .sort)
       item = rw (drop-getD (b .at) items tag (opens (h .0 .head)) (h .0 .body) ((static ok (h .0 .reach)) .text), h .0 .sort)
 
-      go : (f : Bool) → isLoop (b .sort) ≡ f → (anyBox isLoop bs ≡ true → Loop i st xs tg bs) → Loop i st xs tg (b ∷ bs)
+      go : (f : Bool) → isLoop (b .sort) ≡ f → (anyBox isLoop (plains bs) ≡ true → Loop i st xs tg bs) → Loop i st xs tg (b ∷ bs)
       go true e rec = record { b = b; bs = bs; under = here; headed = h .0; loops = e; found = rw (item, e) }
       go false e rec =
           let r = rec (rw e at a) in
@@ -79,7 +79,7 @@ module _ {names size : ℕ} {items : List Item} (ok : Accepted names size items)
       → Loop (m .at) (erase l) (breakloop ∷ xs) tg l
   innermost-loop {l = []} h = no ((clean ok (h .reach)) .placed)
   innermost-loop {m} {l = b ∷ bs} {tg = tg} {xs = xs} h =
-      find-loop (m .at) (erase (b ∷ bs)) (breakloop ∷ xs) tg (b ∷ bs) ((static ok (h .reach)) .heads) (not-f (anyBox isLoop (b ∷ bs)) ((clean ok (h .reach)) .placed))
+      find-loop (m .at) (erase (b ∷ bs)) (breakloop ∷ xs) tg (b ∷ bs) ((static ok (h .reach)) .heads) (not-f (anyBox isLoop (plains (b ∷ bs))) ((clean ok (h .reach)) .placed))
 
   strays-not : (x : Item) {ps : List ℕ} (b : Box) (bs : List Box) → ps ≡ positions (b ∷ bs) → fits x (b .sort) ≡ true → strays x ps (erase (b ∷ bs)) ≡ false
   strays-not x b bs q f = rw (q, f, eq-eqb (b .at) (b .at) refl)

@@ -15,15 +15,16 @@ use Rattle.table.specs.Item.{isOpen, isLoop, opensA}
 use Rattle.table.specs.Uses.{gives, Kinds, kindAt, Names}
 use Rattle.mates.specs.declared.Open.{Open}
 use Rattle.mates.specs.Mates.{closeOf, itemAt}
-use Rattle.rules.specs.declared.OpenBox.{OpenBox as Box}
-use Rattle.rules.specs.Check.{learn, kindsOf, State}
+use Rattle.rules.specs.Check.{isKnown, learn, kindsOf}
+use Rattle.rules.proofs.Placed.{Box, Placed}
+use Rattle.rules.proofs.Writes.{learns}
 use Rattle.state.specs.State.{Status, live, finishedRun, stoppedRun, faultRun, Run}
 use Rattle.machine.specs.Machine.{outside, isNone, opensOk, runOk}
 use Rattle.safety.specs.Safety.{isCode}
 use Rattle.safety.proofs.Laws.{no, no′, and-t, drop-getD}
 use Rattle.safety.proofs.Walk.{textKinds, Accepted, state, Reach, clean, reach-kinds}
 use Rattle.safety.proofs.Boxes.{erase, Below, Heads}
-use Rattle.safety.proofs.Sure.{isKnown, Within, learn-up}
+use Rattle.safety.proofs.Sure.{Within, learn-up}
 use Rattle.safety.proofs.Static.{static}
 use Rattle.safety.proofs.Mates.{close-head}
 use Rattle.safety.proofs.Names.{Covers, AllCover, VarsOk, cells-ok, Knows}
@@ -142,9 +143,9 @@ module _ {names size : ℕ} {items : List Item} (ok : Accepted names size items)
 
   kinds-up : (xs : List Item) (k : Kinds) (n : ℕ) → isKnown (kindAt k n) ≡ true → isKnown (kindAt (kindsOf k xs) n) ≡ true
   kinds-up [] k n h = h
-  kinds-up (x ∷ xs) k n h = kinds-up xs (learn k (gives x)) n (learn-up (gives x) k n h)
+  kinds-up (x ∷ xs) k n h = rw (learns k x) (kinds-up xs (learn k (gives x)) n (learn-up (gives x) k n h))
 
-  sure-kinds : {i : ℕ} {s : State} {k : Kinds} {xs : List Item} → Reach items i s k xs → Within (s .sure) (textKinds items)
+  sure-kinds : {i : ℕ} {s : Placed} {k : Kinds} {xs : List Item} → Reach items i s k xs → Within (s .sure) (textKinds items)
   sure-kinds {k = k} {xs = xs} r n h = rw (reach-kinds ok r) at (kinds-up xs k n ((static ok r) .sure-known n h))
 
   pub knows : {m : Run} {su : Names} {l : List Box} {p tg : Bool} {k : Kinds} {xs : List Item} → Here m su l p tg k xs → Knows (textKinds items) su (m .vars)

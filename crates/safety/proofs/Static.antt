@@ -9,13 +9,13 @@ use Rattle.table.specs.declared.Item.{Item}
 use Rattle.table.specs.Uses.{gives, Kinds}
 use Rattle.mates.specs.declared.Open.{Open}
 use Rattle.mates.specs.Mates.{scan, boxesAt}
-use Rattle.rules.specs.Check.{State, after}
+use Rattle.rules.proofs.Placed.{Placed, after}
 use Rattle.safety.proofs.Laws.{drop-step, not-nothing}
 use Rattle.safety.proofs.Walk.{Accepted, Reach, outset, more, clean, item-ok}
 use Rattle.safety.proofs.Boxes.{erase, Below, Heads, boxes-next, erase-after, below-after, few-after, heads-after}
 use Rattle.safety.proofs.Sure.{Within, AllWithin, learn-length, sure-after, known-after}
 
-pub record Static (items : List Item) (i : ℕ) (s : State) (k : Kinds) (xs : List Item) : Type 0 where
+pub record Static (items : List Item) (i : ℕ) (s : Placed) (k : Kinds) (xs : List Item) : Type 0 where
   pub text : drop i items ≡ xs
   pub span : i + length xs ≡ length items
   pub scanned : boxesAt items i ≡ erase (s .boxes)
@@ -27,7 +27,7 @@ pub record Static (items : List Item) (i : ℕ) (s : State) (k : Kinds) (xs : Li
   pub klen : length k ≡ 32
 
 module _ {names size : ℕ} {items : List Item} (ok : Accepted names size items) where
-  pub static : {i : ℕ} {s : State} {k : Kinds} {xs : List Item} → Reach items i s k xs → Static items i s k xs
+  pub static : {i : ℕ} {s : Placed} {k : Kinds} {xs : List Item} → Reach items i s k xs → Static items i s k xs
   static outset = record {
     text = refl;
     span = zero-add (length items);

@@ -14,9 +14,9 @@ use Rattle.table.specs.declared.Head.the-variants.{If as if', Loop as loop, Swe
 use Rattle.table.specs.declared.Item.{Item}
 use Rattle.table.specs.declared.Item.the-variants.{Act as act, Pack as pack, Open as opens, Branch as branch, Close as closes, Break as breakloop, Tag as tag}
 use Rattle.table.specs.Item.{isSweep}
-use Rattle.table.specs.Uses.{gives, Kinds, Names, first}
-use Rattle.rules.specs.declared.OpenBox.{OpenBox as Box}
-use Rattle.rules.specs.Check.{State, isEmpty}
+use Rattle.table.specs.Uses.{gives, Kinds, Names, lowest as first}
+use Rattle.rules.specs.Check.{isEmpty}
+use Rattle.rules.proofs.Placed.{Box, Placed, plains}
 use Rattle.state.specs.declared.Control.{Control}
 use Rattle.state.specs.declared.Control.the-variants.{None as noControl, Z, Y}
 use Rattle.state.specs.declared.Offer.{Offer}
@@ -113,12 +113,12 @@ module _ {names size : ℕ} {items : List Item} (ok : Accepted names size items)
 
   -- the item that an abort goes to
   record Tagged (i : ℕ) : Type 0 where
-    s : State
+    s : Placed
     k : Kinds
     ys : List Item
     reach : Reach items i s k (tag ∷ ys)
 
-  find-tag : (xs : List Item) (j : ℕ) {s : State} {k : Kinds} (i : ℕ) → Reach items j s k xs → tagFrom j xs ≡ some i → Tagged i
+  find-tag : (xs : List Item) (j : ℕ) {s : Placed} {k : Kinds} (i : ℕ) → Reach items j s k xs → tagFrom j xs ≡ some i → Tagged i
   find-tag [] j i r e = no (ap isNone e)
   find-tag (tag ∷ xs) j {s} {k} i r e =
       let q : j ≡ i = cc in
@@ -130,7 +130,7 @@ module _ {names size : ℕ} {items : List Item} (ok : Accepted names size items)
   find-tag (closes a ∷ xs) j i r e = find-tag xs (suc j) i (more r) e
   find-tag (breakloop ∷ xs) j i r e = find-tag xs (suc j) i (more r) e
 
-  none-open : (tg : Bool) (l : List Box) → (true && (tg || not (isEmpty l))) ≡ false → l ≡ []
+  none-open : (tg : Bool) (l : List Box) → (true && (tg || not (isEmpty (plains l)))) ≡ false → l ≡ []
   none-open tg [] e = refl
   none-open tg (b ∷ bs) e = no (or-r tg true e)
 
@@ -140,7 +140,7 @@ module _ {names size : ℕ} {items : List Item} (ok : Accepted names size items)
     end-boxes : Here ok m su l p tg k [] → noneOpen (m .boxes) ≡ true
     end-boxes h = go l (h .boxes) ((ends ok (h .reach)) .0)
       where
-        go : (l : List Box) → Opened (m .at) [] (m .boxes) l → isEmpty l ≡ true → noneOpen (m .boxes) ≡ true
+        go : (l : List Box) → Opened (m .at) [] (m .boxes) l → isEmpty (plains l) ≡ true → noneOpen (m .boxes) ≡ true
         go [] (inl q) e = rw q
         go (b ∷ bs) (inl q) e = no′ e
         go l (inr q) e = no′ (q .1)

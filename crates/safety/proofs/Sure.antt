@@ -24,14 +24,10 @@ use Rattle.table.specs.declared.Give.{Give}
 use Rattle.table.specs.declared.Give.the-variants.{Like as like, Float as float}
 use Rattle.table.specs.Uses.{actUses, uses, actGives, headGives, gives, Kinds, kindAt, kindIn, Names, has, gone, missing}
 use Rattle.table.specs.Shape.{givesOk, itemOk}
-use Rattle.rules.specs.declared.OpenBox.{OpenBox as Box}
-use Rattle.rules.specs.Check.{everything, both, put, orElse, learn, base, left, after}
+use Rattle.rules.specs.Check.{everything, both, put, isKnown, orElse, learn, base, afterBox}
+use Rattle.rules.proofs.Placed.{Box, plain, bare, after}
 use Rattle.safety.proofs.Laws.{no′, or-l, and-l, not-f, AfterSet, getD-set, both-l, both-r, not-nothing}
 use Rattle.safety.proofs.Walk.{Accepted, state, gives-ok, like-below, float-below}
-
-abbrev pub isKnown : Known → Bool
-isKnown unknown = false
-isKnown (known k) = true
 
 -- every name of the set has a kind
 abbrev pub Within : Names → Kinds → Type 0
@@ -114,13 +110,13 @@ module _ {names size : ℕ} {items : List Item} (ok : Accepted names size items)
   giving-head (loop c) k g = tt
   giving-head (sweep w) k g = (float-below ok (w .potential) (float (w .current) ∷ []) g, (float-below ok (w .current) [] (and-l (ltb (w .current) names) (ltb (w .potential) names) g), tt))
 
-  left-known : (o : Sort) (b : Box) (su : Names) (k : Kinds) → Within su k → Within (b .before) k → Within (left o b su) k
-  left-known ifBox b su k w v n e = w n (both-r (b .meet) su n (both-l (both (b .meet) su) (cond (b .last) everything (b .before)) n e))
+  left-known : (o : Sort) (b : Box) (su : Names) (k : Kinds) → Within su k → Within (b .before) k → Within (afterBox o (plain b) su) k
+  left-known ifBox b su k w v n e = w n (both-r (b .everyEnd) su n (both-l (both (b .everyEnd) su) (cond (b .elseSeen) everything (b .before)) n e))
   left-known loopBox b su k w v n e = v n e
   left-known sweepBox b su k w v n e = v n e
 
   module _ (i : ℕ) (su : Names) (p tg : Bool) (k : Kinds) where
-    pub sure-after : (l : List Box) (x : Item) → itemOk names size x ≡ true → missing (has (base (state su l p tg) x)) (uses x) ≡ false
+    pub sure-after : (l : List Box) (x : Item) → itemOk names size x ≡ true → missing (has (base (bare (state su l p tg)) x)) (uses x) ≡ false
         → length k ≡ 32 → Within su k → AllWithin l k → Within ((after i (state su l p tg) x) .sure) (learn k (gives x))
     sure-after l (act a) g m e w v = put-known (actGives a) su k e w (giving-act a su k (gives-ok ok (act a) g) m w)
     sure-after l (pack q) g m e w v = w

@@ -1,6 +1,6 @@
 -- The checker's walk over the items of an accepted script: the state before each item, and what its tests said of it.
 use Prim.Native.Nat.{ℕ, zero, suc, _≤_, _<_}
-use mathlib.Core.Path.{_≡_, refl}
+use mathlib.Core.Path.{_≡_, refl, sym, ap, _∙_}
 use mathlib.Core.Bool.{Bool, true, false, not, _&&_, _||_}
 use mathlib.Core.List.{List, [], _∷_}
 use native.Mathlib.Omega.{arith}
@@ -16,10 +16,11 @@ use Rattle.table.specs.declared.Known.the-variants.{Unknown as unknown}
 use Rattle.table.specs.declared.Give.{Give}
 use Rattle.table.specs.declared.Give.the-variants.{Like as like, Float as float}
 use Rattle.table.specs.Item.{isOpen, isTag, fits}
-use Rattle.table.specs.Uses.{uses, gives, Kinds, kindAt, wrong, wrongGive, Names, has, missing, breaksOrder, first}
+use Rattle.table.specs.Uses.{uses, gives, Kinds, kindAt, wrong, wrongGive, Names, has, missing, breaksOrder, lowest}
 use Rattle.table.specs.Shape.{operandOk, wantsOk, givesOk, ownOk, itemOk, itemsOk}
-use Rattle.rules.specs.declared.OpenBox.{OpenBox as Box}
-use Rattle.rules.specs.Check.{learn, kindsOf, State, begin, isEmpty, base, misplaced, refusals, refusalsAtEnd, after, Verdict, accepted, orGo, walk}
+use Rattle.rules.specs.Check.{learn, kindsOf, State, begin, isEmpty, base, misplaced, refusals, refusalsAtEnd, Verdict, accepted, orGo, walk}
+use Rattle.rules.proofs.Placed.{Box, Placed, atStart, plains, bare, length-plains, after, same-walk}
+use Rattle.rules.proofs.Writes.{learns}
 use Rattle.safety.proofs.Laws.{or-l, or-r, and-l, and-r, not-f, skip}
 
 -- the kinds of the whole text
@@ -33,26 +34,26 @@ pub record Accepted (names size : ℕ) (items : List Item) : Type 0 where
   pub passed : walk (textKinds items) 0 begin items ≡ accepted
 
 -- the checker's state: what is surely written, the open boxes, a package open, the tag seen
-abbrev pub state : Names → List Box → Bool → Bool → State
+abbrev pub state : Names → List Box → Bool → Bool → Placed
 state su l p tg = record { sure = su; boxes = l; packed = p; tagged = tg }
 
 -- s is the state before item i, k the kinds from the items before it, xs the items from there on
-pub data Reach (items : List Item) : ℕ → State → Kinds → List Item → Type 0 where
-  outset : Reach items 0 begin (replicate 32 unknown) items
-  more : {i : ℕ} {s : State} {k : Kinds} {x : Item} {xs : List Item} → Reach items i s k (x ∷ xs) → Reach items (suc i) (after i s x) (learn k (gives x)) xs
+pub data Reach (items : List Item) : ℕ → Placed → Kinds → List Item → Type 0 where
+  outset : Reach items 0 atStart (replicate 32 unknown) items
+  more : {i : ℕ} {s : Placed} {k : Kinds} {x : Item} {xs : List Item} → Reach items i s k (x ∷ xs) → Reach items (suc i) (after i s x) (learn k (gives x)) xs
 
 -- ---- an accepted item passes every test
 
-pub record Clean (k : Kinds) (s : State) (x : Item) : Type 0 where
+pub record Clean (k : Kinds) (s : Placed) (x : Item) : Type 0 where
   pub kinds : wrong (kindAt k) (uses x) ≡ false
   pub gifts : wrongGive (kindAt k) (gives x) ≡ false
-  pub there : missing (has (base s x)) (uses x) ≡ false
-  pub placed : misplaced x (s .boxes) ≡ false
+  pub there : missing (has (base (bare s) x)) (uses x) ≡ false
+  pub placed : misplaced x (plains (s .boxes)) ≡ false
   pub eighth : (isOpen x && leb 8 (length (s .boxes))) ≡ false
   pub packed : breaksOrder x (s .packed) ≡ false
-  pub tagged : (isTag x && (s .tagged || not (isEmpty (s .boxes)))) ≡ false
+  pub tagged : (isTag x && (s .tagged || not (isEmpty (plains (s .boxes))))) ≡ false
 
-is-clean : (k : Kinds) (s : State) (x : Item) → first (refusals k s x) ≡ 0 → Clean k s x
+is-clean : (k : Kinds) (s : Placed) (x : Item) → lowest (refusals k (bare s) x) ≡ 0 → Clean k s x
 is-clean k s x e₀ =
     let a = skip 18 _ _ e₀ in
     let b = skip 19 _ _ (a .1) in
@@ -65,7 +66,7 @@ is-clean k s x e₀ =
       gifts = or-r (wrong (kindAt k) (uses x)) (wrongGive (kindAt k) (gives x)) (a .0);
       there = b .0;
       placed = c .0;
-      eighth = d .0;
+      eighth = ap (λ (n : ℕ). isOpen x && leb 8 n) (sym (length-plains (s .boxes))) ∙ d .0;
       packed = f .0;
       tagged = g .0;
     }
@@ -75,38 +76,40 @@ orGo-accepted zero i v e = (refl, e)
 orGo-accepted (suc n) i v e = (cc, cc)
 
 -- a closing or branch mark that is placed is of its box's sort
-pub closes-fits : (e : Close) (b : Box) (bs : List Box) → misplaced (closes e) (b ∷ bs) ≡ false → fits (closes e) (b .sort) ≡ true
+pub closes-fits : (e : Close) (b : Box) (bs : List Box) → misplaced (closes e) (plains (b ∷ bs)) ≡ false → fits (closes e) (b .sort) ≡ true
 closes-fits e b bs h = not-f _ (or-l (not (fits (closes e) (b .sort))) false (or-l (not (fits (closes e) (b .sort)) || false) false h))
 
-pub branch-fits : (c : Branch) (b : Box) (bs : List Box) → misplaced (branch c) (b ∷ bs) ≡ false → fits (branch c) (b .sort) ≡ true
-branch-fits c b bs h = not-f _ (or-l (not (fits (branch c) (b .sort))) (b .last) (or-l (not (fits (branch c) (b .sort)) || b .last) false h))
+pub branch-fits : (c : Branch) (b : Box) (bs : List Box) → misplaced (branch c) (plains (b ∷ bs)) ≡ false → fits (branch c) (b .sort) ≡ true
+branch-fits c b bs h = not-f _ (or-l (not (fits (branch c) (b .sort))) (b .elseSeen) (or-l (not (fits (branch c) (b .sort)) || b .elseSeen) false h))
 
 -- ---- of an accepted script
 
 module _ {names size : ℕ} {items : List Item} (ok : Accepted names size items) where
-  reach-walk : {i : ℕ} {s : State} {k : Kinds} {xs : List Item} → Reach items i s k xs → walk (textKinds items) i s xs ≡ accepted
+  reach-walk : {i : ℕ} {s : Placed} {k : Kinds} {xs : List Item} → Reach items i s k xs → walk (textKinds items) i (bare s) xs ≡ accepted
   reach-walk outset = ok .passed
-  reach-walk (more {i} {s} {k} {x} {xs} r) = (orGo-accepted (first (refusals (textKinds items) s x)) i _ (reach-walk r)) .1
+  reach-walk (more {i} {s} {k} {x} {xs} r) =
+      ap (λ (z : State). walk (textKinds items) (suc i) z xs) (same-walk i s x)
+      ∙ (orGo-accepted (lowest (refusals (textKinds items) (bare s) x)) i _ (reach-walk r)) .1
 
-  pub clean : {i : ℕ} {s : State} {k : Kinds} {x : Item} {xs : List Item} → Reach items i s k (x ∷ xs) → Clean (textKinds items) s x
-  clean {i} {s} {k} {x} {xs} r = is-clean (textKinds items) s x ((orGo-accepted (first (refusals (textKinds items) s x)) i _ (reach-walk r)) .0)
+  pub clean : {i : ℕ} {s : Placed} {k : Kinds} {x : Item} {xs : List Item} → Reach items i s k (x ∷ xs) → Clean (textKinds items) s x
+  clean {i} {s} {k} {x} {xs} r = is-clean (textKinds items) s x ((orGo-accepted (lowest (refusals (textKinds items) (bare s) x)) i _ (reach-walk r)) .0)
 
-  pub reach-kinds : {i : ℕ} {s : State} {k : Kinds} {xs : List Item} → Reach items i s k xs → kindsOf k xs ≡ textKinds items
+  pub reach-kinds : {i : ℕ} {s : Placed} {k : Kinds} {xs : List Item} → Reach items i s k xs → kindsOf k xs ≡ textKinds items
   reach-kinds outset = refl
-  reach-kinds (more r) = reach-kinds r
+  reach-kinds (more {k = k} {x = x} {xs = xs} r) = ap (λ (q : Kinds). kindsOf q xs) (sym (learns k x)) ∙ reach-kinds r
 
-  reach-ok : {i : ℕ} {s : State} {k : Kinds} {xs : List Item} → Reach items i s k xs → itemsOk names size xs ≡ true
+  reach-ok : {i : ℕ} {s : Placed} {k : Kinds} {xs : List Item} → Reach items i s k xs → itemsOk names size xs ≡ true
   reach-ok outset = ok .shaped
   reach-ok (more {x = x} {xs = xs} r) = and-r (itemOk names size x) (itemsOk names size xs) (reach-ok r)
 
-  pub item-ok : {i : ℕ} {s : State} {k : Kinds} {x : Item} {xs : List Item} → Reach items i s k (x ∷ xs) → itemOk names size x ≡ true
+  pub item-ok : {i : ℕ} {s : Placed} {k : Kinds} {x : Item} {xs : List Item} → Reach items i s k (x ∷ xs) → itemOk names size x ≡ true
   item-ok {x = x} {xs = xs} r = and-l (itemOk names size x) (itemsOk names size xs) (reach-ok r)
 
-  pub ends : {i : ℕ} {s : State} {k : Kinds} → Reach items i s k [] → (isEmpty (s .boxes) ≡ true) × (s .packed ≡ false)
+  pub ends : {i : ℕ} {s : Placed} {k : Kinds} → Reach items i s k [] → (isEmpty (plains (s .boxes)) ≡ true) × (s .packed ≡ false)
   ends {i} {s} {k} r =
-      let a = skip 20 _ _ ((orGo-accepted (first (refusalsAtEnd s)) i _ (reach-walk r)) .0) in
+      let a = skip 20 _ _ ((orGo-accepted (lowest (refusalsAtEnd (bare s))) i _ (reach-walk r)) .0) in
       let b = skip 22 _ _ (a .1) in
-      (not-f (isEmpty (s .boxes)) (a .0), b .0)
+      (not-f (isEmpty (plains (s .boxes))) (a .0), b .0)
 
   name-below : (n : ℕ) → ltb n names ≡ true → n < 32
   name-below n h = omega (arith, ltb-true n names h, ok .few)

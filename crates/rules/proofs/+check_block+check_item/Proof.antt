@@ -5,7 +5,7 @@ use lib.ListN.{length-map}
 use borrow.Author.Needs.{needs}
 use borrow.Fn.Kinds.{In}
 use borrow.Fn.PlainCycle.{Measures, is, falls, and}
-use Rattle.rules.specs.Walk.{restOf, Took}
+use Rattle.rules.specs.Code.{restOf, Took}
 use Rattle.rules.proofs.Way.{took, goes-on, went-to, went-on, took-in}
 use Rattle.rules.proofs.check_block.Reads as check-block
 use Rattle.rules.proofs.check_block.Kinds as check-block-kinds

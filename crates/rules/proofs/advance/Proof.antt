@@ -1,6 +1,6 @@
 use mathlib.Core.Path.{_∙_}
 use native.Mathlib.Omega.{arith}
-use Rattle.rules.specs.Standing.{stateOf}
+use Rattle.rules.specs.Code.{stateOf}
 use Rattle.rules.proofs.After.{act-is, same-item}
 use Rattle.rules.proofs.Rows.{room}
 use borrow.Author.Needs.{needs}
@@ -53,25 +53,25 @@ after-tag-requires : tie.Need-after-tag-requires
 after-tag-requires c κs = search needs
 
 returns : tie.Need-returns
-returns c = (c .after-act .ensures .0 ∙ act-is (c .before .before .before .before .args .at) (stateOf (c .before .before .before .before .args .s)) (c .before .before .before .before .args .item) _ (c .before .before .enum-told .given .1) (c .before .writes .ensures), omega arith)
+returns c = (c .after-act .ensures .0 ∙ act-is (stateOf (c .before .before .before .before .args .s)) (c .before .before .before .before .args .item) _ (c .before .before .enum-told .given .1) (c .before .writes .ensures), omega arith)
 
 returns-2 : tie.Need-returns-2
-returns-2 c = (c .after-pack .ensures .0 ∙ same-item (c .before .before .before .before .args .at) (stateOf (c .before .before .before .before .args .s)) (c .before .before .item .given .1), omega arith)
+returns-2 c = (c .after-pack .ensures .0 ∙ same-item (stateOf (c .before .before .before .before .args .s)) (c .before .before .item .given .1), omega arith)
 
 returns-3 : tie.Need-returns-3
-returns-3 c = (c .after-open .ensures .0 ∙ same-item (c .before .before .before .before .before .args .at) (stateOf (c .before .before .before .before .before .args .s)) (c .before .before .before .item2 .given .1), omega arith)
+returns-3 c = (c .after-open .ensures .0 ∙ same-item (stateOf (c .before .before .before .before .before .args .s)) (c .before .before .before .item2 .given .1), omega arith)
 
 returns-4 : tie.Need-returns-4
-returns-4 c = (c .after-branch .ensures .0 ∙ same-item (c .before .before .before .before .args .at) (stateOf (c .before .before .before .before .args .s)) (c .before .before .item3 .given .1), omega arith)
+returns-4 c = (c .after-branch .ensures .0 ∙ same-item (stateOf (c .before .before .before .before .args .s)) (c .before .before .item3 .given .1), omega arith)
 
 returns-5 : tie.Need-returns-5
-returns-5 c = (c .after-close .ensures .0 ∙ same-item (c .before .before .before .args .at) (stateOf (c .before .before .before .args .s)) (c .before .enum-told2 .given .1), omega arith)
+returns-5 c = (c .after-close .ensures .0 ∙ same-item (stateOf (c .before .before .before .args .s)) (c .before .enum-told2 .given .1), omega arith)
 
 returns-6 : tie.Need-returns-6
-returns-6 c = (same-item (c .before .before .args .at) (stateOf (c .before .before .args .s)) (c .enum-told3 .given .1), omega arith)
+returns-6 c = (same-item (stateOf (c .before .before .args .s)) (c .enum-told3 .given .1), omega arith)
 
 returns-7 : tie.Need-returns-7
-returns-7 c = (c .after-tag .ensures .0 ∙ same-item (c .before .before .before .args .at) (stateOf (c .before .before .before .args .s)) (c .before .enum-told4 .given .1), omega arith)
+returns-7 c = (c .after-tag .ensures .0 ∙ same-item (stateOf (c .before .before .before .args .s)) (c .before .enum-told4 .given .1), omega arith)
 
 pub advance-spec : {M : Type 1} → statement M
 advance-spec =

@@ -24,11 +24,11 @@ in-both-requires c κs = search needs
 is-else-requires : tie.Need-is-else-requires
 is-else-requires c κs = search needs
 
-sub-t14 : tie.Need-sub-t14
-sub-t14 c = search needs
+sub-t13 : tie.Need-sub-t13
+sub-t13 c = search needs
 
-mul-t15 : tie.Need-mul-t15
-mul-t15 c = search needs
+mul-t14 : tie.Need-mul-t14
+mul-t14 c = search needs
 
 element-set-from-t : tie.Need-element-set-from-t
 element-set-from-t c = search needs
@@ -44,5 +44,5 @@ pub after-branch-spec : {M : Type 1} → statement M
 after-branch-spec =
     tie.close
     (tie.spec
-    returns sub-b mul-b element-copy-out-b in-both-requires is-else-requires sub-t14 mul-t15
+    returns sub-b mul-b element-copy-out-b in-both-requires is-else-requires sub-t13 mul-t14
     element-set-from-t returns-2)

@@ -16,15 +16,15 @@ mul-b c = search needs
 element-copy-out-b : tie.Need-element-copy-out-b
 element-copy-out-b c = search needs
 
-left-of-requires : tie.Need-left-of-requires
-left-of-requires c κs = search needs
+after-box-requires : tie.Need-after-box-requires
+after-box-requires c κs = search needs
 
 sub-t : tie.Need-sub-t
 sub-t c = search needs
 
 returns-2 : tie.Need-returns-2
-returns-2 c = (close-is (c .before .before .before .before .args .s) (c .left-of .result) (c .before .before .before .if1 .left) (c .left-of .ensures), omega arith)
+returns-2 c = (close-is (c .before .before .before .before .args .s) (c .after-box .result) (c .before .before .before .if1 .left) (c .after-box .ensures), omega arith)
 
 pub after-close-spec : {M : Type 1} → statement M
 after-close-spec =
-    tie.close (tie.spec returns sub-b mul-b element-copy-out-b left-of-requires sub-t returns-2)
+    tie.close (tie.spec returns sub-b mul-b element-copy-out-b after-box-requires sub-t returns-2)

@@ -10,8 +10,8 @@ use Rattle.rules.proofs.after_open.Tie as tie
 sort-of-requires : tie.Need-sort-of-requires
 sort-of-requires c κs = search needs
 
-mul-t12 : tie.Need-mul-t12
-mul-t12 c = search needs
+mul-t11 : tie.Need-mul-t11
+mul-t11 c = search needs
 
 element-set-from-t : tie.Need-element-set-from-t
 element-set-from-t c = search needs
@@ -24,7 +24,7 @@ with-written-requires c κs = search needs
 
 returns : tie.Need-returns
 returns c = (
-  open-is (c .before .before .before .args .s) (c .before .before .before .args .at) (c .before .before .before .args .head) (c .before .sort-of .result) (c .with-written .result)
+  open-is (c .before .before .before .args .s) (c .before .before .before .args .head) (c .before .sort-of .result) (c .with-written .result)
       (omega (arith, simp length-map at (c .before .before .before .good .0 .1 .1 .1 .0 .1 .0 .1), c .before .before .before .pre .0)) (c .before .sort-of .ensures)
       (c .with-written .ensures ∙ ap (put (c .before .before .before .args .s .sure)) (c .before .before .before .pre .1)),
   omega arith,
@@ -33,4 +33,4 @@ returns c = (
 pub after-open-spec : {M : Type 1} → statement M
 after-open-spec =
     tie.close
-    (tie.spec sort-of-requires mul-t12 element-set-from-t add-t with-written-requires returns)
+    (tie.spec sort-of-requires mul-t11 element-set-from-t add-t with-written-requires returns)

@@ -3,7 +3,7 @@ use mathlib.Core.Path.{_≡_, refl, sym, _∙_}
 use native.Mathlib.Omega.{arith}
 use borrow.Author.Needs.{needs}
 use Rattle.rules.specs.Check.{anyBox}
-use Rattle.rules.specs.Standing.{asked, topFirst}
+use Rattle.rules.specs.Code.{asked, topFirst}
 use Rattle.rules.proofs.Boxes.{any-here, any-further, any-none}
 use Rattle.rules.proofs.any_box.Statement.{statement}
 use Rattle.rules.proofs.any_box.Tie as tie

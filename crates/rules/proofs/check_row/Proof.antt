@@ -4,7 +4,7 @@ use native.Mathlib.Omega.{arith}
 use borrow.Author.Needs.{needs}
 use Rattle.table.specs.Shape.{itemsOf}
 use Rattle.rules.specs.Check.{begin, walk}
-use Rattle.rules.specs.Walk.{restOf}
+use Rattle.rules.specs.Code.{restOf}
 use Rattle.rules.proofs.Way.{begins, goes-on, refused-there, at-end}
 use Rattle.rules.proofs.check_row.Statement.{statement}
 use Rattle.rules.proofs.check_row.Tie as tie

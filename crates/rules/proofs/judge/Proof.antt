@@ -1,5 +1,5 @@
 use mathlib.Core.Path.{ap, _∙_}
-use Rattle.table.specs.Uses.{first}
+use Rattle.table.specs.Uses.{lowest}
 use borrow.Author.Needs.{needs}
 use Rattle.rules.proofs.judge.Statement.{statement}
 use Rattle.rules.proofs.judge.Tie as tie
@@ -11,7 +11,7 @@ lowest-requires : tie.Need-lowest-requires
 lowest-requires c κs = search needs
 
 returns : tie.Need-returns
-returns c = c .lowest .ensures ∙ ap first (c .before .tests-of .ensures)
+returns c = c .lowest .ensures ∙ ap lowest (c .before .tests-of .ensures)
 
 pub judge-spec : {M : Type 1} → statement M
 judge-spec = tie.close (tie.spec tests-of-requires lowest-requires returns)

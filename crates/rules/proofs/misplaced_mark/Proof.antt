@@ -1,4 +1,4 @@
-use Rattle.rules.specs.Standing.{topFirst}
+use Rattle.rules.specs.Code.{topFirst}
 use mathlib.Core.Path.{sym}
 use Rattle.rules.proofs.Boxes.{no-mark, branch-misplaced, close-misplaced, break-misplaced}
 use borrow.Author.Needs.{needs}

@@ -1,5 +1,4 @@
-use mathlib.Core.Path.{ap, _∙_}
-use Rattle.rules.specs.Check.{twice}
+use mathlib.Core.Path.{_∙_}
 use Rattle.rules.proofs.Boxes.{length-top}
 use Rattle.rules.proofs.Rows.{same-rows}
 use borrow.Author.Needs.{needs}
@@ -24,9 +23,6 @@ breaks-order-requires c κs = search needs
 misplaced-tag-requires : tie.Need-misplaced-tag-requires
 misplaced-tag-requires c κs = search needs
 
-writes-requires : tie.Need-writes-requires
-writes-requires c κs = search needs
-
 same-name-requires : tie.Need-same-name-requires
 same-name-requires c κs = search needs
 
@@ -35,13 +31,13 @@ nested-sweep-requires c κs = search needs
 
 returns : tie.Need-returns
 returns c = same-rows
-    (c .before .before .before .before .before .before .before .before .wrong-kinds .ensures)
-    (c .before .before .before .before .before .before .before .unwritten .ensures)
-    (c .before .before .before .before .before .before .misplaced-mark .ensures)
-    (c .before .before .before .before .before .ninth-box .ensures ∙ rw (length-top (c .before .before .before .before .before .before .before .before .before .args .s .boxes) (c .before .before .before .before .before .before .before .before .before .args .s .depth)))
-    (c .before .before .before .before .breaks-order .ensures)
-    (c .before .before .before .misplaced-tag .ensures)
-    (c .before .same-name .ensures ∙ ap twice (c .before .before .writes .ensures))
+    (c .before .before .before .before .before .before .before .wrong-kinds .ensures)
+    (c .before .before .before .before .before .before .unwritten .ensures)
+    (c .before .before .before .before .before .misplaced-mark .ensures)
+    (c .before .before .before .before .ninth-box .ensures ∙ rw (length-top (c .before .before .before .before .before .before .before .before .args .s .boxes) (c .before .before .before .before .before .before .before .before .args .s .depth)))
+    (c .before .before .before .breaks-order .ensures)
+    (c .before .before .misplaced-tag .ensures)
+    (c .before .same-name .ensures)
     (c .nested-sweep .ensures)
 
 pub tests-of-spec : {M : Type 1} → statement M
@@ -49,5 +45,5 @@ tests-of-spec =
     tie.close
     (tie.spec
     wrong-kinds-requires unwritten-requires misplaced-mark-requires ninth-box-requires
-    breaks-order-requires misplaced-tag-requires writes-requires same-name-requires
+    breaks-order-requires misplaced-tag-requires same-name-requires
     nested-sweep-requires returns)

@@ -1,6 +1,6 @@
 use borrow.Author.Needs.{needs}
-use Rattle.rules.proofs.left_if.Statement.{statement}
-use Rattle.rules.proofs.left_if.Tie as tie
+use Rattle.rules.proofs.after_if.Statement.{statement}
+use Rattle.rules.proofs.after_if.Tie as tie
 
 in-both-requires : tie.Need-in-both-requires
 in-both-requires c κs = search needs
@@ -17,6 +17,6 @@ in-both-requires-3 c κs = search needs
 returns-2 : tie.Need-returns-2
 returns-2 c = simp (c .in-both3 .ensures, c .before .before .in-both .ensures, c .before .if1 .left)
 
-pub left-if-spec : {M : Type 1} → statement M
-left-if-spec =
+pub after-if-spec : {M : Type 1} → statement M
+after-if-spec =
     tie.close (tie.spec in-both-requires in-both-requires-2 returns in-both-requires-3 returns-2)
