@@ -11,7 +11,9 @@ use Rattle.argument.specs.declared.Form.{Form}
 use Rattle.argument.specs.declared.Argument.{Argument}
 use Rattle.argument.specs.declared.Said.{Said}
 use Rattle.argument.specs.Refusal.{numberOf}
-use Rattle.argument.specs.Argument.{nameOf, operandOf, valueOf, lettersOf, smallOf, comparisonOf, textOf, wrongOf, saidAt}
+use Rattle.argument.specs.Argument.{saidAt}
+use Rattle.argument.specs.Holds.{nameOf, operandOf, valueOf, lettersOf, smallOf, comparisonOf, textOf, wrongOf}
+use Rattle.argument.specs.Code.{numbered}
 
 pub only-number : (refusal : Refusal) (r r' : ℕ) → r ≡ numberOf refusal → r' ≡ numberOf refusal → r ≡ r'
 only-number refusal r r' e e' = e ∙ sym e'
@@ -37,7 +39,8 @@ only-comparison-of x r r' e e' = e ∙ sym e'
 pub only-text-of : (x : Argument) (r r' : Text) → r ≡ textOf x → r' ≡ textOf x → r ≡ r'
 only-text-of x r r' e e' = e ∙ sym e'
 
-pub only-wrong-of : (x : Argument) (r r' : ℕ) → r ≡ wrongOf x → r' ≡ wrongOf x → r ≡ r'
+pub only-wrong-of : (x : Argument) (r r' : ℕ)
+    → r ≡ numbered (wrongOf x) → r' ≡ numbered (wrongOf x) → r ≡ r'
 only-wrong-of x r r' e e' = e ∙ sym e'
 
 pub only-say-at : (names : List (List ℕ)) (line : List ℕ) (form : Form) (i : ℕ) (r r' : Said) → r ≡ saidAt names line form i → r' ≡ saidAt names line form i → r ≡ r'

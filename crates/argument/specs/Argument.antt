@@ -4,19 +4,14 @@ use mathlib.Core.Bool.{Bool, true, false, cond}
 use mathlib.Core.List.{List, [], _∷_}
 use Prim.Native.Nat.{ℕ, _+_}
 use lib.Dec.{ltb, eqb}
-use lib.IntN.{pos}
 use lib.ListN.{length, drop, getD}
 use Rattle.text.specs.Cut.{before}
-use Rattle.value.specs.declared.Value.{Value}
-use Rattle.value.specs.declared.Value.the-variants.{Whole as whole}
 use Rattle.value.specs.declared.Comparison.{Comparison}
 use Rattle.value.specs.declared.Comparison.the-variants.{Equal as equal, Unequal as unequal, Less as less, AtMost as atMost, Greater as greater, AtLeast as atLeast}
 use Rattle.value.specs.declared.Literal.{Literal}
 use Rattle.value.specs.declared.Literal.the-variants.{Value as good, Bad as bad}
 use Rattle.value.specs.Literal.{literal as readLiteral}
-use Rattle.table.specs.declared.Operand.{Operand}
 use Rattle.table.specs.declared.Operand.the-variants.{Name as name, Literal as literal}
-use Rattle.table.specs.declared.Text.{Text}
 use Rattle.word.specs.declared.Class.the-variants.{Blank}
 use Rattle.word.specs.declared.Found.{Found}
 use Rattle.word.specs.declared.Found.the-variants.{At as at, Nothing as nowhere}
@@ -24,105 +19,14 @@ use Rattle.word.specs.declared.TypeName.{TypeName}
 use Rattle.word.specs.declared.TypeName.the-variants.{Letters as letters, Bad as noType}
 use Rattle.word.specs.declared.Small.{Small}
 use Rattle.word.specs.declared.Small.the-variants.{Number as number, Bad as noNumber}
-use Rattle.text.specs.Bytes.{ascii}
+use Rattle.text.specs.Bytes.{byte, ascii}
 use Rattle.word.specs.Word.{run, wordAt, part, nameForm, readType, smallOf as readNumber, padded, seek}
-use Rattle.argument.specs.Refusal.{numberOf, badArguments, undeclared, declaredTwice, tooManyNames}
+use Rattle.argument.specs.Refusal.{badArguments, undeclared, declaredTwice, tooManyNames}
 pub use Rattle.argument.specs.declared.Form.{Form}
 pub use Rattle.argument.specs.declared.Form.the-variants as F
 pub use Rattle.argument.specs.declared.Argument.{Argument}
 pub use Rattle.argument.specs.declared.Argument.the-variants as A
 pub use Rattle.argument.specs.declared.Said.{Said}
-
--- ---- what an argument says, where it says something of the sort, and otherwise nothing of meaning
-
-abbrev pub nameOf : Argument → ℕ
-nameOf A.Nothing = 0
-nameOf (A.Name y) = y
-nameOf (A.Operand y) = 0
-nameOf (A.Literal y) = 0
-nameOf (A.Letters y) = 0
-nameOf (A.Number y) = 0
-nameOf (A.Comparison y) = 0
-nameOf (A.Text y) = 0
-nameOf (A.Wrong y) = 0
-
-abbrev pub operandOf : Argument → Operand
-operandOf A.Nothing = literal (whole (pos 0))
-operandOf (A.Name y) = literal (whole (pos 0))
-operandOf (A.Operand y) = y
-operandOf (A.Literal y) = literal (whole (pos 0))
-operandOf (A.Letters y) = literal (whole (pos 0))
-operandOf (A.Number y) = literal (whole (pos 0))
-operandOf (A.Comparison y) = literal (whole (pos 0))
-operandOf (A.Text y) = literal (whole (pos 0))
-operandOf (A.Wrong y) = literal (whole (pos 0))
-
-abbrev pub valueOf : Argument → Value
-valueOf A.Nothing = whole (pos 0)
-valueOf (A.Name y) = whole (pos 0)
-valueOf (A.Operand y) = whole (pos 0)
-valueOf (A.Literal y) = y
-valueOf (A.Letters y) = whole (pos 0)
-valueOf (A.Number y) = whole (pos 0)
-valueOf (A.Comparison y) = whole (pos 0)
-valueOf (A.Text y) = whole (pos 0)
-valueOf (A.Wrong y) = whole (pos 0)
-
-abbrev pub lettersOf : Argument → ℕ
-lettersOf A.Nothing = 0
-lettersOf (A.Name y) = 0
-lettersOf (A.Operand y) = 0
-lettersOf (A.Literal y) = 0
-lettersOf (A.Letters y) = y
-lettersOf (A.Number y) = 0
-lettersOf (A.Comparison y) = 0
-lettersOf (A.Text y) = 0
-lettersOf (A.Wrong y) = 0
-
-abbrev pub smallOf : Argument → ℕ
-smallOf A.Nothing = 0
-smallOf (A.Name y) = 0
-smallOf (A.Operand y) = 0
-smallOf (A.Literal y) = 0
-smallOf (A.Letters y) = 0
-smallOf (A.Number y) = y
-smallOf (A.Comparison y) = 0
-smallOf (A.Text y) = 0
-smallOf (A.Wrong y) = 0
-
-abbrev pub comparisonOf : Argument → Comparison
-comparisonOf A.Nothing = equal
-comparisonOf (A.Name y) = equal
-comparisonOf (A.Operand y) = equal
-comparisonOf (A.Literal y) = equal
-comparisonOf (A.Letters y) = equal
-comparisonOf (A.Number y) = equal
-comparisonOf (A.Comparison y) = y
-comparisonOf (A.Text y) = equal
-comparisonOf (A.Wrong y) = equal
-
-abbrev pub textOf : Argument → Text
-textOf A.Nothing = record { start = 0; end = 0 }
-textOf (A.Name y) = record { start = 0; end = 0 }
-textOf (A.Operand y) = record { start = 0; end = 0 }
-textOf (A.Literal y) = record { start = 0; end = 0 }
-textOf (A.Letters y) = record { start = 0; end = 0 }
-textOf (A.Number y) = record { start = 0; end = 0 }
-textOf (A.Comparison y) = record { start = 0; end = 0 }
-textOf (A.Text y) = y
-textOf (A.Wrong y) = record { start = 0; end = 0 }
-
--- the number of what is wrong; 19, above all numbers of form, where nothing is
-abbrev pub wrongOf : Argument → ℕ
-wrongOf A.Nothing = 19
-wrongOf (A.Name y) = 19
-wrongOf (A.Operand y) = 19
-wrongOf (A.Literal y) = 19
-wrongOf (A.Letters y) = 19
-wrongOf (A.Number y) = 19
-wrongOf (A.Comparison y) = 19
-wrongOf (A.Text y) = 19
-wrongOf (A.Wrong y) = numberOf y
 
 -- ---- what a word says where a form is asked; a missing word is an empty one
 
@@ -211,10 +115,11 @@ abbrev pub closedAt : List ℕ → ℕ → ℕ → Said
 closedAt line f q = cond (ltb q (length line)) (stopped (A.Text (record { start = f; end = q })) (q + 1)) (stopped (A.Wrong badArguments) (length line))
 
 abbrev pub afterQuote : List ℕ → ℕ → Said
-afterQuote line f = closedAt line f (f + before 34 (drop f line))
+afterQuote line f = closedAt line f (f + before (byte "\"") (drop f line))
 
 abbrev pub textFrom : List ℕ → ℕ → Said
-textFrom line f = cond (eqb (getD line f 0) 34) (afterQuote line (f + 1)) (stopped (A.Wrong badArguments) (length line))
+textFrom line f =
+    cond (eqb (getD line f 0) (byte "\"")) (afterQuote line (f + 1)) (stopped (A.Wrong badArguments) (length line))
 
 unfoldable pub textAt : List ℕ → ℕ → Said
 textAt line i = textFrom line (i + run Blank (drop i line))

@@ -1,2 +1,4 @@
 pub mod Refusal
 pub mod Argument
+pub mod Holds
+pub mod Code

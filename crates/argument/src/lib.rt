@@ -12,7 +12,11 @@ ghost use mathlib.Core.Path.{_≡_};
 ghost use Prim.Native.Nat.{_≤_};
 ghost use lib.ListN.{length};
 ghost use Rattle.argument.specs.Refusal.{numberOf};
-ghost use Rattle.argument.specs.Argument.{nameOf, operandOf, valueOf, lettersOf, smallOf, comparisonOf, textOf, wrongOf, emptySaid, newSaid, nameSaid, literalSaid, operandSaid, typeSaid, numberSaid, comparisonAt, comparisonSaid, said, isText, textAt, saidAt};
+ghost use Rattle.argument.specs.Holds.{nameOf, operandOf, valueOf, lettersOf, smallOf};
+ghost use Rattle.argument.specs.Holds.{comparisonOf, textOf, wrongOf};
+ghost use Rattle.argument.specs.Code.{numbered};
+ghost use Rattle.argument.specs.Argument.{emptySaid, newSaid, nameSaid, literalSaid, operandSaid, typeSaid};
+ghost use Rattle.argument.specs.Argument.{numberSaid, comparisonAt, comparisonSaid, said, isText, textAt, saidAt};
 
 // What is wrong with a script's text.
 pub enum Refusal {
@@ -146,7 +150,7 @@ pub fn text_of(x: Argument) -> Text
 
 // The number of what is wrong with an argument, or NO_NUMBER.
 pub fn wrong_of(x: Argument) -> u8
-    ensures { λ r. ⌜ r ≡ wrongOf x ⌝ }
+    ensures { λ r. ⌜ r ≡ numbered (wrongOf x) ⌝ }
 {
     match x {
         Argument::Wrong(refusal) => number(refusal),

@@ -1,6 +1,7 @@
 -- Laws of the judgement of a line. Assumes nothing.
 use mathlib.Core.Path.{_≡_, refl, sym, _∙_, ap, ap₂}
 use mathlib.Core.List.{List, [], _∷_}
+use mathlib.Core.Option.{Option, none, some}
 use Prim.Native.Nat.{ℕ, _≤_, _<_}
 use native.Mathlib.Omega.{arith}
 use borrow.Author.Tests.{lt-ltb, le-ltb}
@@ -16,22 +17,66 @@ use Rattle.argument.specs.declared.Refusal.the-variants as R
 use Rattle.argument.specs.Refusal.{numberOf}
 use Rattle.argument.specs.declared.Argument.{Argument}
 use Rattle.argument.specs.declared.Argument.the-variants as A
-use Rattle.argument.specs.Argument.{wrongOf}
+use Rattle.argument.specs.Holds.{wrongOf}
+use Rattle.argument.specs.Code.{numbered}
 use lib.ListN.{length}
 use Rattle.argument.proofs.Past.{word-past}
 use Rattle.argument.proofs.Argument.{the-type}
 use Rattle.line.specs.Command.{Make, Command, Arguments, itemOf, commands, tagCommand, commandWords, commandAt}
-use Rattle.line.specs.Line.{item, refused, argumentsAt, lower, lowest, verdict, byCommand, judged}
+use Rattle.line.specs.Line.{item, refused, argumentsAt, lower, lowest, orItem, verdict, byCommand, judged}
 
 -- ---- the lower of two numbers
 
-pub lower-left : (a b x y : ℕ) → x ≡ a → y ≡ b → x < y → a ≡ lower a b
-unfolding lower
-lower-left a b x y e f h = let g : a < b = omega arith in sym (simp (lt-ltb a b g))
+below : (r : Refusal) → numberOf r < 19
+unfolding numberOf
+below R.TooLong = omega arith
+below R.NoEnd = omega arith
+below R.LongLine = omega arith
+below R.TooManyItems = omega arith
+below R.UnknownCommand = omega arith
+below R.BadArguments = omega arith
+below R.Undeclared = omega arith
+below R.DeclaredTwice = omega arith
+below R.TooManyNames = omega arith
 
-pub lower-right : (a b x y : ℕ) → x ≡ a → y ≡ b → y ≤ x → b ≡ lower a b
+-- a number of form, if there is one
+abbrev OfForm : Option ℕ → Type 0
+OfForm none = Unit {0}
+OfForm (some n) = n < 19
+
+of-form : (x : Argument) → OfForm (wrongOf x)
+of-form A.Nothing = tt
+of-form (A.Name y) = tt
+of-form (A.Operand y) = tt
+of-form (A.Literal y) = tt
+of-form (A.Letters y) = tt
+of-form (A.Number y) = tt
+of-form (A.Comparison y) = tt
+of-form (A.Text y) = tt
+of-form (A.Wrong y) = below y
+
+left-is : (p q : Option ℕ) (x y : ℕ) → OfForm q
+    → x ≡ numbered p → y ≡ numbered q → x < y → p ≡ lower p q
 unfolding lower
-lower-right a b x y e f h = let g : b ≤ a = omega arith in sym (simp (le-ltb a b g))
+left-is none none x y w e f h = absurd (omega arith)
+left-is none (some n) x y w e f h = absurd (omega arith)
+left-is (some m) none x y w e f h = refl
+left-is (some m) (some n) x y w e f h = let g : m < n = omega arith in sym (simp (lt-ltb m n g))
+
+right-is : (p q : Option ℕ) (x y : ℕ) → OfForm p
+    → x ≡ numbered p → y ≡ numbered q → y ≤ x → q ≡ lower p q
+unfolding lower
+right-is none q x y w e f h = refl
+right-is (some m) none x y w e f h = absurd (omega arith)
+right-is (some m) (some n) x y w e f h = let g : n ≤ m = omega arith in sym (simp (le-ltb m n g))
+
+pub lower-left : (a b : Argument) (x y : ℕ) → x ≡ numbered (wrongOf a) → y ≡ numbered (wrongOf b) → x < y
+    → wrongOf a ≡ lower (wrongOf a) (wrongOf b)
+lower-left a b x y e f h = left-is (wrongOf a) (wrongOf b) x y (of-form b) e f h
+
+pub lower-right : (a b : Argument) (x y : ℕ) → x ≡ numbered (wrongOf a) → y ≡ numbered (wrongOf b) → y ≤ x
+    → wrongOf b ≡ lower (wrongOf a) (wrongOf b)
+lower-right a b x y e f h = right-is (wrongOf a) (wrongOf b) x y (of-form a) e f h
 
 -- ---- the judgement
 
@@ -54,29 +99,17 @@ known names line i w k shape x e f g h =
     ap₂ (λ (v : Span) (y : Found). byCommand names line (v .end) y) (sym e) (ap (λ (v : Span). seek commandWords (part line v)) (sym e) ∙ f)
     ∙ ap (λ (y : Arguments). verdict (commandAt k) y) (sym (h ∙ ap (λ (s : List ℕ). argumentsAt names line s (w .end)) g))
 
-below : (r : Refusal) → numberOf r < 19
-unfolding numberOf
-below R.TooLong = omega arith
-below R.NoEnd = omega arith
-below R.LongLine = omega arith
-below R.TooManyItems = omega arith
-below R.UnknownCommand = omega arith
-below R.BadArguments = omega arith
-below R.Undeclared = omega arith
-below R.DeclaredTwice = omega arith
-below R.TooManyNames = omega arith
-
 -- the worst argument is wrong
 pub faulty : (c : Command) (x : Arguments) (y : Argument) (r : Refusal) → wrongOf y ≡ lowest x → y ≡ A.Wrong r → refused (numberOf r) ≡ verdict c x
 faulty c x y r e f =
-    let z : lowest x ≡ numberOf r = sym e ∙ ap wrongOf f in
-    sym (simp (z, lt-ltb (numberOf r) 19 (below r)))
+    let z : lowest x ≡ some (numberOf r) = sym e ∙ ap wrongOf f in
+    sym (ap (λ (w : Option ℕ). orItem w (itemOf (c .make) x)) z)
 
 -- the tags of arguments that are not wrong
 abbrev pub right : List ℕ
 right = 0 ∷ 1 ∷ 2 ∷ 3 ∷ 4 ∷ 5 ∷ 6 ∷ 7 ∷ []
 
-pub not-wrong : (y : Argument) → OneOf right (tagOf the-type y) → wrongOf y ≡ 19
+pub not-wrong : (y : Argument) → OneOf right (tagOf the-type y) → wrongOf y ≡ none
 not-wrong A.Nothing k = refl
 not-wrong (A.Name y) k = refl
 not-wrong (A.Operand y) k = refl
@@ -91,5 +124,5 @@ not-wrong (A.Wrong y) k = absurd (miss right 8 tt k)
 pub good : (c : Command) (x : Arguments) (y : Argument) (make : Make) (it : Item) → wrongOf y ≡ lowest x → OneOf right (tagOf the-type y)
     → make ≡ c .make → it ≡ itemOf make x → item it ≡ verdict c x
 good c x y make it e k f g =
-    let z : lowest x ≡ 19 = sym e ∙ not-wrong y k in
-    ap item (g ∙ ap (λ (m : Make). itemOf m x) f) ∙ sym (simp (z))
+    let z : lowest x ≡ none = sym e ∙ not-wrong y k in
+    ap item (g ∙ ap (λ (m : Make). itemOf m x) f) ∙ sym (ap (λ (w : Option ℕ). orItem w (itemOf (c .make) x)) z)

@@ -20,12 +20,12 @@ use Rattle.table.specs.declared.Close.{Close}
 use Rattle.table.specs.declared.Close.the-variants.{EndIf as endif, EndLoop as endloop}
 use Rattle.table.specs.declared.Item.{Item}
 use Rattle.table.specs.declared.Item.the-variants.{Act as act, Pack as pack, Open as opens, Branch as branch, Close as closes, Break as breakloop, Tag as tag}
-use Rattle.text.specs.Bytes.{ascii}
+use Rattle.text.specs.Bytes.{byte, ascii}
 use Rattle.word.specs.Word.{padded}
 use Rattle.argument.specs.declared.Argument.{Argument}
 use Rattle.argument.specs.declared.Form.{Form}
 use Rattle.argument.specs.declared.Form.the-variants.{Nothing, New, Name, Operand, Literal, Letters, Number, Comparison, Text}
-use Rattle.argument.specs.Argument.{nameOf, operandOf, valueOf, lettersOf, smallOf, comparisonOf, textOf}
+use Rattle.argument.specs.Holds.{nameOf, operandOf, valueOf, lettersOf, smallOf, comparisonOf, textOf}
 pub use Rattle.line.specs.declared.Arguments.{Arguments}
 pub use Rattle.line.specs.declared.MakeAct.{MakeAct}
 pub use Rattle.line.specs.declared.MakeAct.the-variants as A
@@ -94,7 +94,7 @@ pub record Command : Type 0 where
   pub make : Make
 
 abbrev pub row : String → String → Make → Command
-row w s m = record { word = padded (ascii w); shape = ascii s ++ replicate (6 - length (ascii s)) 32; make = m }
+row w s m = record { word = padded (ascii w); shape = ascii s ++ replicate (6 - length (ascii s)) (byte " "); make = m }
 
 unfoldable pub tagCommand : Command
 unfolding padded
@@ -143,11 +143,11 @@ commandAt k = getD commands k tagCommand
 
 unfoldable pub formOf : ℕ → Form
 formOf c =
-    cond (eqb c 119) New
-    (cond (eqb c 118) Name
-    (cond (eqb c 120) Operand
-    (cond (eqb c 108) Literal
-    (cond (eqb c 116) Letters
-    (cond (eqb c 110) Number
-    (cond (eqb c 111) Comparison
-    (cond (eqb c 115) Text Nothing)))))))
+    cond (eqb c (byte "w")) New
+    (cond (eqb c (byte "v")) Name
+    (cond (eqb c (byte "x")) Operand
+    (cond (eqb c (byte "l")) Literal
+    (cond (eqb c (byte "t")) Letters
+    (cond (eqb c (byte "n")) Number
+    (cond (eqb c (byte "o")) Comparison
+    (cond (eqb c (byte "s")) Text Nothing)))))))

@@ -1,6 +1,7 @@
 -- 01, "Script text" and "The checker": a line that is not skipped: its item, or the lowest of its numbers 14 to 18.
 use mathlib.Core.Bool.{cond}
 use mathlib.Core.List.{List}
+use mathlib.Core.Option.{Option, none, some}
 use Prim.Native.Nat.{ℕ}
 use lib.Dec.{ltb}
 use lib.ListN.{getD}
@@ -11,7 +12,8 @@ use Rattle.word.specs.Word.{wordAt, part, seek}
 use Rattle.argument.specs.Refusal.{numberOf}
 use Rattle.argument.specs.declared.Form.the-variants.{Nothing}
 use Rattle.argument.specs.declared.Said.{Said}
-use Rattle.argument.specs.Argument.{wrongOf, saidAt}
+use Rattle.argument.specs.Argument.{saidAt}
+use Rattle.argument.specs.Holds.{wrongOf}
 use Rattle.line.specs.Command.{Command, Arguments, itemOf, commandWords, commandAt, formOf}
 use Rattle.line.specs.declared.Judged.{Judged}
 use Rattle.line.specs.declared.Judged.the-variants as J
@@ -37,15 +39,21 @@ argumentsAt names line k i =
     let g : Said = saidAt names line Nothing (f .stop) in
     record { a = a .argument; b = b .argument; c = c .argument; d = d .argument; e = e .argument; f = f .argument; end = g .argument }
 
-unfoldable pub lower : ℕ → ℕ → ℕ
-lower a b = cond (ltb a b) a b
+unfoldable pub lower : Option ℕ → Option ℕ → Option ℕ
+lower none b = b
+lower (some m) none = some m
+lower (some m) (some n) = some (cond (ltb m n) m n)
 
--- "lowest number within a line"; 19, above all numbers of form, where nothing is wrong
-unfoldable pub lowest : Arguments → ℕ
+-- "lowest number within a line", if an argument is wrong
+unfoldable pub lowest : Arguments → Option ℕ
 lowest x = lower (wrongOf (x .a)) (lower (wrongOf (x .b)) (lower (wrongOf (x .c)) (lower (wrongOf (x .d)) (lower (wrongOf (x .e)) (lower (wrongOf (x .f)) (wrongOf (x .end)))))))
 
+abbrev pub orItem : Option ℕ → Item → Judgement
+orItem none it = item it
+orItem (some n) it = refused n
+
 abbrev pub verdict : Command → Arguments → Judgement
-verdict c x = cond (ltb (lowest x) 19) (refused (lowest x)) (item (itemOf (c .make) x))
+verdict c x = orItem (lowest x) (itemOf (c .make) x)
 
 -- 14 for an unknown command, else what its arguments say
 abbrev pub byCommand : List (List ℕ) → List ℕ → ℕ → Found → Judgement

@@ -14,7 +14,7 @@ use value::Operation;
 use word::Found;
 ghost use mathlib.Core.Path.{_≡_};
 ghost use Rattle.word.specs.Word.{seek};
-ghost use Rattle.argument.specs.Argument.{wrongOf};
+ghost use Rattle.argument.specs.Holds.{wrongOf};
 ghost use Rattle.line.specs.Command.{conditionOf, sweepOf, actOf, packOf, headOf, branchOf, itemOf, commandWords, commandAt, formOf};
 ghost use Rattle.line.specs.Line.{argumentsAt, lower, lowest, meaning, judged};
 

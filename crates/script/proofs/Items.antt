@@ -2,6 +2,7 @@
 use mathlib.Core.Path.{_≡_, refl, sym, _∙_, ap}
 use mathlib.Core.Bool.{Bool, true, false, cond}
 use mathlib.Core.List.{List, [], _∷_}
+use mathlib.Core.Option.{Option, none, some}
 use Prim.Native.Nat.{ℕ, zero, suc, _+_, _≤_}
 use native.Mathlib.Omega.{arith}
 use lib.Dec.{ltb}
@@ -12,7 +13,8 @@ use Rattle.table.specs.Shape.{itemOk}
 use Rattle.word.specs.declared.Found.{Found}
 use Rattle.word.specs.declared.Found.the-variants as At
 use Rattle.word.specs.Word.{wordAt, part, padded, seek}
-use Rattle.argument.specs.Argument.{nameOf, wrongOf, saidAt}
+use Rattle.argument.specs.Holds.{nameOf, wrongOf}
+use Rattle.argument.specs.Argument.{saidAt}
 use Rattle.line.specs.declared.Arguments.{Arguments}
 use Rattle.line.specs.declared.MakeAct.the-variants as A
 use Rattle.line.specs.declared.MakePack.the-variants as P
@@ -21,9 +23,9 @@ use Rattle.line.specs.declared.MakeBranch.the-variants as B
 use Rattle.line.specs.declared.Make.{Make}
 use Rattle.line.specs.declared.Make.the-variants as M
 use Rattle.line.specs.Command.{Command, commands, tagCommand, commandWords, commandAt, itemOf, formOf}
-use Rattle.line.specs.Line.{Judgement, item, refused, argumentsAt, lower, lowest, byCommand, judged}
+use Rattle.line.specs.Line.{Judgement, item, refused, argumentsAt, lower, lowest, orItem, byCommand, judged}
 use Rattle.script.specs.Load.{declares, counted}
-use Rattle.script.proofs.Room.{isNew, right, item-of}
+use Rattle.script.proofs.Room.{isNew, right, item-of, lower-both}
 use Rattle.script.proofs.Said.{Fit, fit, isNamed, named-fit}
 
 -- ---- which of the first two arguments an item takes as a name
@@ -137,20 +139,11 @@ asks k = at-row commands tagCommand all (refl, refl, refl) k
 
 -- ---- nothing is wrong with any argument
 
-lower-both : (a b : ℕ) → 19 ≤ lower a b → (19 ≤ a) × (19 ≤ b)
-unfolding lower
-lower-both a b h = go (ltb a b) refl h
-  where
-    go : (t : Bool) → ltb a b ≡ t → 19 ≤ cond t a b → (19 ≤ a) × (19 ≤ b)
-    go true e h = (h, omega (arith, ltb-true a b e))
-    go false e h = (omega (arith, ltb-false a b e), h)
-
-two-fine : (x : Arguments) → 19 ≤ lowest x → (19 ≤ wrongOf (x .a)) × (19 ≤ wrongOf (x .b))
+two-fine : (x : Arguments) → lowest x ≡ none → (wrongOf (x .a) ≡ none) × (wrongOf (x .b) ≡ none)
 unfolding lowest
 two-fine x h =
-    let later : ℕ = lower (wrongOf (x .c)) (lower (wrongOf (x .d)) (lower (wrongOf (x .e)) (lower (wrongOf (x .f)) (wrongOf (x .end))))) in
-    let p : (19 ≤ wrongOf (x .a)) × (19 ≤ lower (wrongOf (x .b)) later) = lower-both (wrongOf (x .a)) (lower (wrongOf (x .b)) later) h in
-    (p .0, lower-both (wrongOf (x .b)) later (p .1) .0)
+    let p = lower-both (wrongOf (x .a)) _ h in
+    (p .0, lower-both (wrongOf (x .b)) _ (p .1) .0)
 
 -- ---- the item of a line
 
@@ -168,16 +161,17 @@ judged-fit names line i it n size e h l = go (seek commandWords (part line (word
   where
     go : (f : Found) → byCommand names line (wordAt line i .end) f ≡ item it → itemOk n size it ≡ true
     go At.Nothing e = let z : _≡_ {A = ℕ} 0 1 = cc in absurd (omega arith)
-    go (At.At k) e = by (ltb (lowest x) 19) refl e
+    go (At.At k) e = by (lowest x) refl e
       where
         x : Arguments
         x = argumentsAt names line (commandAt k .shape) (wordAt line i .end)
 
-        by : (t : Bool) → ltb (lowest x) 19 ≡ t → cond t (refused (lowest x)) (item (itemOf (commandAt k .make) x)) ≡ item it → itemOk n size it ≡ true
-        by true q e = let z : _≡_ {A = ℕ} 0 1 = cc in absurd (omega arith)
-        by false q e =
+        by : (t : Option ℕ) → lowest x ≡ t → orItem t (itemOf (commandAt k .make) x) ≡ item it
+            → itemOk n size it ≡ true
+        by (some m) q e = let z : _≡_ {A = ℕ} 0 1 = cc in absurd (omega arith)
+        by none q e =
             let same : itemOf (commandAt k .make) x ≡ it = ap (λ (j : Judgement). item-of j it) e in
-            let fine : (19 ≤ wrongOf (x .a)) × (19 ≤ wrongOf (x .b)) = two-fine x (ltb-false _ _ q) in
+            let fine : (wrongOf (x .a) ≡ none) × (wrongOf (x .b) ≡ none) = two-fine x q in
             let new : declares it ≡ isNew (formOf (getD (commandAt k .shape) 0 0)) = sym (ap declares same) ∙ right k x in
             let most : length names ≤ n = count-kept (length names) n (declares it) h in
             ap (itemOk n size) (sym same)

@@ -2,25 +2,26 @@
 use mathlib.Core.Path.{_≡_, refl, sym, _∙_, ap}
 use mathlib.Core.Bool.{Bool, true, false, cond}
 use mathlib.Core.List.{List, [], _∷_}
+use mathlib.Core.Option.{Option, none, some}
 use Prim.Native.Nat.{ℕ, zero, suc, _+_, _≤_, _<_}
 use native.Mathlib.Omega.{arith}
 use lib.Dec.{ltb}
 use lib.ListN.{length, getD}
-use borrow.Author.Tests.{ltb-true, ltb-false}
+use borrow.Author.Tests.{ltb-true}
 use Rattle.table.specs.declared.Item.{Item}
 use Rattle.table.specs.declared.Script.{Script}
 use Rattle.word.specs.Word.{wordAt, part, padded, skipped, nameForm, seek}
 use Rattle.word.specs.declared.Found.{Found}
 use Rattle.word.specs.declared.Found.the-variants as At
-use Rattle.argument.specs.Refusal.{numberOf}
 use Rattle.argument.specs.declared.Refusal.the-variants as R
 use Rattle.argument.specs.declared.Argument.the-variants as A
 use Rattle.argument.specs.declared.Form.{Form}
 use Rattle.argument.specs.declared.Form.the-variants as F
-use Rattle.argument.specs.Argument.{wrongOf, newSaid, fresh, said, saidAt}
+use Rattle.argument.specs.Holds.{wrongOf}
+use Rattle.argument.specs.Argument.{newSaid, fresh, said, saidAt}
 use Rattle.line.specs.declared.Arguments.{Arguments}
 use Rattle.line.specs.Command.{Command, commands, commandAt, tagCommand, commandWords, itemOf, formOf}
-use Rattle.line.specs.Line.{Judgement, item, refused, argumentsAt, lower, lowest, byCommand, judged}
+use Rattle.line.specs.Line.{Judgement, item, refused, argumentsAt, lower, lowest, orItem, byCommand, judged}
 use Rattle.script.specs.Load.{declares, counted, appended, nothing, given, taking, lineStep}
 
 unfoldable pub isNew : Form → Bool
@@ -55,33 +56,37 @@ pub right : (k : ℕ) → Right (commandAt k)
 unfolding commandAt commands tagCommand isNew formOf padded
 right k = at-row commands tagCommand all (λ x. refl) k
 
-new-room : (names : List (List ℕ)) (w : List ℕ) → 19 ≤ wrongOf (newSaid names w) → length names < 32
-unfolding newSaid numberOf
+-- nothing is wrong, so no number is given
+pub never : {X : Type 0} {n : ℕ} → _≡_ {A = Option ℕ} (some n) none → X
+never e = let z : _≡_ {A = ℕ} 0 1 = cc in absurd (omega arith)
+
+new-room : (names : List (List ℕ)) (w : List ℕ) → wrongOf (newSaid names w) ≡ none → length names < 32
+unfolding newSaid
 new-room names w h = go (nameForm w) (seek names w) h
   where
-    go : (b : Bool) (f : Found) → 19 ≤ wrongOf (cond b (fresh (length names) f) (A.Wrong R.BadArguments)) → length names < 32
-    go false f h = absurd (omega arith)
-    go true (At.At i) h = absurd (omega arith)
+    go : (b : Bool) (f : Found) → wrongOf (cond b (fresh (length names) f) (A.Wrong R.BadArguments)) ≡ none
+        → length names < 32
+    go false f h = never h
+    go true (At.At i) h = never h
     go true At.Nothing h = full (ltb (length names) 32) refl h
       where
-        full : (b : Bool) → ltb (length names) 32 ≡ b → 19 ≤ wrongOf (cond b (A.Name (length names)) (A.Wrong R.TooManyNames)) → length names < 32
+        full : (b : Bool) → ltb (length names) 32 ≡ b
+            → wrongOf (cond b (A.Name (length names)) (A.Wrong R.TooManyNames)) ≡ none → length names < 32
         full true e h = ltb-true _ _ e
-        full false e h = absurd (omega arith)
+        full false e h = never h
 
-lower-left : (a b : ℕ) → 19 ≤ lower a b → 19 ≤ a
+pub lower-both : (a b : Option ℕ) → lower a b ≡ none → (a ≡ none) × (b ≡ none)
 unfolding lower
-lower-left a b h = go (ltb a b) refl h
-  where
-    go : (t : Bool) → ltb a b ≡ t → 19 ≤ cond t a b → 19 ≤ a
-    go true e h = h
-    go false e h = omega (arith, ltb-false a b e)
+lower-both none b h = (refl, h)
+lower-both (some m) none h = never h
+lower-both (some m) (some n) h = never h
 
-first-fault : (x : Arguments) → 19 ≤ lowest x → 19 ≤ wrongOf (x .a)
+first-fine : (x : Arguments) → lowest x ≡ none → wrongOf (x .a) ≡ none
 unfolding lowest
-first-fault x h = lower-left _ _ h
+first-fine x h = lower-both (wrongOf (x .a)) _ h .0
 
 first-new : (names : List (List ℕ)) (line : List ℕ) (i : ℕ) (f : Form) → isNew f ≡ true
-    → 19 ≤ wrongOf (saidAt names line f i .argument) → length names < 32
+    → wrongOf (saidAt names line f i .argument) ≡ none → length names < 32
 unfolding isNew saidAt said
 first-new names line i F.New e h = new-room names (part line (wordAt line i)) h
 first-new names line i F.Nothing e h = let z : _≡_ {A = ℕ} 0 1 = cc in absurd (omega arith)
@@ -104,17 +109,18 @@ room names line i it e d = go (seek commandWords (part line (wordAt line i))) e
   where
     go : (f : Found) → byCommand names line (wordAt line i .end) f ≡ item it → length names < 32
     go At.Nothing e = let z : _≡_ {A = ℕ} 0 1 = cc in absurd (omega arith)
-    go (At.At k) e = by (ltb (lowest x) 19) refl e
+    go (At.At k) e = by (lowest x) refl e
       where
         x : Arguments
         x = argumentsAt names line (commandAt k .shape) (wordAt line i .end)
 
-        by : (t : Bool) → ltb (lowest x) 19 ≡ t → cond t (refused (lowest x)) (item (itemOf (commandAt k .make) x)) ≡ item it → length names < 32
-        by true q e = let z : _≡_ {A = ℕ} 0 1 = cc in absurd (omega arith)
-        by false q e =
+        by : (t : Option ℕ) → lowest x ≡ t → orItem t (itemOf (commandAt k .make) x) ≡ item it
+            → length names < 32
+        by (some n) q e = let z : _≡_ {A = ℕ} 0 1 = cc in absurd (omega arith)
+        by none q e =
             let same : itemOf (commandAt k .make) x ≡ it = ap (λ (j : Judgement). item-of j it) e in
             let new : isNew (formOf (getD (commandAt k .shape) 0 0)) ≡ true = sym (right k x) ∙ ap declares same ∙ d in
-            first-new names line (wordAt line i .end) (formOf (getD (commandAt k .shape) 0 0)) new (first-fault x (ltb-false _ _ q))
+            first-new names line (wordAt line i .end) (formOf (getD (commandAt k .shape) 0 0)) new (first-fine x q)
 
 -- ---- so the names stay few
 

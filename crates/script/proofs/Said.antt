@@ -1,6 +1,7 @@
 -- What an argument's word says is in shape: names below their count, literals finite, texts inside. Assumes nothing.
 use mathlib.Core.Path.{_≡_, refl}
 use mathlib.Core.Bool.{Bool, true, false, cond}
+use mathlib.Core.Option.{none}
 use mathlib.Core.List.{List, [], _∷_}
 use Prim.Native.Nat.{ℕ, suc, _+_, _≤_, _<_}
 use native.Mathlib.Omega.{arith}
@@ -29,8 +30,9 @@ use Rattle.argument.specs.declared.Argument.{Argument}
 use Rattle.argument.specs.declared.Argument.the-variants as A
 use Rattle.argument.specs.declared.Form.{Form}
 use Rattle.argument.specs.declared.Form.the-variants as F
-use Rattle.argument.specs.Argument.{nameOf, operandOf, valueOf, textOf, wrongOf, emptySaid, known, nameSaid, fresh, newSaid, valuedBy, literalSaid, knownOperand, literalOperand, operandSaid, letteredBy, typeSaid, numberedBy, numberSaid, signs, comparedBy, comparisonSaid, said, closedAt, textAt, isText, stopped, saidAt}
-use Rattle.script.proofs.Room.{isNew}
+use Rattle.argument.specs.Holds.{nameOf, operandOf, valueOf, textOf, wrongOf}
+use Rattle.argument.specs.Argument.{emptySaid, known, nameSaid, fresh, newSaid, valuedBy, literalSaid, knownOperand, literalOperand, operandSaid, letteredBy, typeSaid, numberedBy, numberSaid, signs, comparedBy, comparisonSaid, said, closedAt, textAt, isText, stopped, saidAt}
+use Rattle.script.proofs.Room.{isNew, never}
 
 -- ---- a row that is found is one of the table
 
@@ -177,33 +179,33 @@ isNamed F.Number = false
 isNamed F.Comparison = false
 isNamed F.Text = false
 
-old-named : (names : List (List ℕ)) (w : List ℕ) (n : ℕ) → length names ≤ n → 19 ≤ wrongOf (nameSaid names w) → ltb (nameOf (nameSaid names w)) n ≡ true
+old-named : (names : List (List ℕ)) (w : List ℕ) (n : ℕ) → length names ≤ n → wrongOf (nameSaid names w) ≡ none → ltb (nameOf (nameSaid names w)) n ≡ true
 unfolding nameSaid numberOf
 old-named names w n h k = go (nameForm w) (seek names w) (widen (seek names w) h (seek-below names w)) k
   where
-    go : (b : Bool) (f : Found) → Below n f → 19 ≤ wrongOf (cond b (known f) (A.Wrong R.BadArguments)) → ltb (nameOf (cond b (known f) (A.Wrong R.BadArguments))) n ≡ true
+    go : (b : Bool) (f : Found) → Below n f → wrongOf (cond b (known f) (A.Wrong R.BadArguments)) ≡ none → ltb (nameOf (cond b (known f) (A.Wrong R.BadArguments))) n ≡ true
     go true (At.At i) l k = lt-ltb i n l
-    go true At.Nothing l k = absurd (omega arith)
-    go false f l k = absurd (omega arith)
+    go true At.Nothing l k = never k
+    go false f l k = never k
 
-new-named : (names : List (List ℕ)) (w : List ℕ) (n : ℕ) → length names < n → 19 ≤ wrongOf (newSaid names w) → ltb (nameOf (newSaid names w)) n ≡ true
+new-named : (names : List (List ℕ)) (w : List ℕ) (n : ℕ) → length names < n → wrongOf (newSaid names w) ≡ none → ltb (nameOf (newSaid names w)) n ≡ true
 unfolding newSaid numberOf
 new-named names w n h k = go (nameForm w) (seek names w) (ltb (length names) 32) k
   where
-    go : (b : Bool) (f : Found) (t : Bool) → 19 ≤ wrongOf (cond b (fresh (length names) f) (A.Wrong R.BadArguments)) → ltb (nameOf (cond b (fresh (length names) f) (A.Wrong R.BadArguments))) n ≡ true
-    go true (At.At i) t k = absurd (omega arith)
+    go : (b : Bool) (f : Found) (t : Bool) → wrongOf (cond b (fresh (length names) f) (A.Wrong R.BadArguments)) ≡ none → ltb (nameOf (cond b (fresh (length names) f) (A.Wrong R.BadArguments))) n ≡ true
+    go true (At.At i) t k = never k
     go true At.Nothing t k = full (ltb (length names) 32) k
       where
-        full : (b : Bool) → 19 ≤ wrongOf (cond b (A.Name (length names)) (A.Wrong R.TooManyNames)) → ltb (nameOf (cond b (A.Name (length names)) (A.Wrong R.TooManyNames))) n ≡ true
+        full : (b : Bool) → wrongOf (cond b (A.Name (length names)) (A.Wrong R.TooManyNames)) ≡ none → ltb (nameOf (cond b (A.Name (length names)) (A.Wrong R.TooManyNames))) n ≡ true
         full true k = lt-ltb (length names) n h
-        full false k = absurd (omega arith)
-    go false f t k = absurd (omega arith)
+        full false k = never k
+    go false f t k = never k
 
 no : {X : Type 0} → false ≡ true → X
 no e = let z : _≡_ {A = ℕ} 0 1 = cc in absurd (omega arith)
 
 pub named-fit : (names : List (List ℕ)) (line : List ℕ) (form : Form) (i n : ℕ) → isNamed form ≡ true → cond (isNew form) (length names + 1) (length names) ≤ n
-    → 19 ≤ wrongOf (saidAt names line form i .argument) → ltb (nameOf (saidAt names line form i .argument)) n ≡ true
+    → wrongOf (saidAt names line form i .argument) ≡ none → ltb (nameOf (saidAt names line form i .argument)) n ≡ true
 unfolding saidAt said isNamed isNew
 named-fit names line F.New i n e h k = new-named names (part line (wordAt line i)) n (omega arith) k
 named-fit names line F.Name i n e h k = old-named names (part line (wordAt line i)) n h k

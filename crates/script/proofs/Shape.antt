@@ -15,7 +15,7 @@ use Rattle.table.specs.declared.Script.{Script}
 use Rattle.table.specs.Shape.{itemsIn, itemsOf, itemOk, itemsOk, inShape}
 use Rattle.word.specs.Word.{skipped}
 use Rattle.line.specs.Line.{Judgement, item, refused, judged}
-use Rattle.script.specs.Load.{Outcome, emptyScript, refusal, accepted, counted, appended, nothing, given, Step, taking, lineStep, nameRow, named, walk, loaded}
+use Rattle.script.specs.Load.{Outcome, emptyScript, refusal, accepted, declares, counted, appended, Line, nothing, given, Step, taking, takenBy, lineStep, nameRow, named, walk, loaded}
 use Rattle.script.proofs.Room.{Few, room, count-few, few}
 use Rattle.script.proofs.Items.{judged-fit}
 
@@ -80,13 +80,23 @@ module _ (size : ℕ) (p : Script) (names : List (List ℕ)) (upto : List ℕ) (
 
 -- ---- the names are as many as the table counts
 
-named-length : (names : List (List ℕ)) (n m : ℕ) (line : List ℕ) → n ≡ length names → Few n m → m ≡ length (named names n m line)
-unfolding named
-named-length names n m line e f = go (ltb n m) refl
+named-length : (p : Script) (names : List (List ℕ)) (nr : ℕ) (j : Line) (line : List ℕ)
+    → p .names ≡ length names → taking p nr j .script .names ≡ length (named names j line)
+unfolding named appended counted
+named-length p names nr nothing line e = e
+named-length p names nr (given (refused k)) line e = e
+named-length p names nr (given (item it)) line e = go (declares it)
   where
-    go : (b : Bool) → ltb n m ≡ b → m ≡ length (cond b (names ++ (nameRow line ∷ [])) names)
-    go true q = omega (arith, length-append names (nameRow line ∷ []), ltb-true n m q, f .next)
-    go false q = omega (arith, ltb-false n m q, f .kept)
+    go : (b : Bool) → cond b (p .names + 1) (p .names) ≡ length (cond b (names ++ (nameRow line ∷ [])) names)
+    go true = omega (arith, length-append names (nameRow line ∷ []))
+    go false = e
+
+step-length : (p : Script) (names : List (List ℕ)) (upto : List ℕ) (i nr : ℕ) (line : List ℕ)
+    → p .names ≡ length names
+    → lineStep p names line upto i nr .script .names
+    ≡ length (named names (takenBy (p .count) names line upto i) line)
+unfolding lineStep
+step-length p names upto i nr line e = named-length p names nr (takenBy (p .count) names line upto i) line e
 
 -- ---- the whole script
 
@@ -103,16 +113,19 @@ unfolding walk
 walk-sound text p names i nr [] s e z = absurd (omega arith)
 walk-sound text p names i nr (l ∷ ls) s e z =
     go (eqb (length l) 0) (eqb (t .number) 0) refl
-    (walk-sound text (t .script) (named names (p .names) (t .script .names) l) (i + length l + 1) (nr + 1) ls
+    (walk-sound text (t .script) names' (i + length l + 1) (nr + 1) ls
     (step-sound (length text) p names (take (i + length l) text) i nr s e (omega (arith, length-take (i + length l) text)) l)
-    (named-length names (p .names) (t .script .names) l e (few p names l (take (i + length l) text) i nr e (omega (arith, s .known)))))
+    (step-length p names (take (i + length l) text) i nr l e))
     z
   where
     t : Step
     t = lineStep p names l (take (i + length l) text) i nr
 
+    names' : List (List ℕ)
+    names' = named names (takenBy (p .count) names l (take (i + length l) text) i) l
+
     rest : Outcome
-    rest = walk text (t .script) (named names (p .names) (t .script .names) l) (i + length l + 1) (nr + 1) ls
+    rest = walk text (t .script) names' (i + length l + 1) (nr + 1) ls
 
     go : (a b : Bool) → eqb (t .number) 0 ≡ b → (rest .number ≡ 0 → inShape (length text) (rest .table) ≡ true)
         → cond a (accepted p nr) (cond b rest (refusal (t .number) nr)) .number ≡ 0

@@ -16,8 +16,6 @@ use Rattle.line.specs.Line.{Judgement, item, refused, judged}
 use Rattle.script.specs.declared.Answer.{Answer}
 use Rattle.script.specs.declared.Answer.the-variants.{Accepted as acceptedBy, Refused as refusedBy}
 use Rattle.script.specs.declared.Loaded.{Loaded}
-use Rattle.script.specs.declared.Taken.{Taken}
-use Rattle.script.specs.declared.Taken.the-variants as T
 
 -- ---- what loading gives: 01's number and line, both 0 where the text is accepted, and the table
 
@@ -87,11 +85,6 @@ pub data Line : Type 0 where
   nothing : Line
   given : Judgement → Line
 
-abbrev pub takenOf : Taken → Line
-takenOf T.Skipped = nothing
-takenOf (T.Item it) = given (item it)
-takenOf (T.Refused r) = given (refused (numberOf r))
-
 -- the line, and the script's bytes up to its end, in which it stands from a place on; n items stand before it
 abbrev pub takenBy : ℕ → List (List ℕ) → List ℕ → List ℕ → ℕ → Line
 takenBy n names line upto i =
@@ -114,13 +107,15 @@ taking p nr (given (item it)) = step (appended p it nr) 0
 unfoldable pub lineStep : Script → List (List ℕ) → List ℕ → List ℕ → ℕ → ℕ → Step
 lineStep p names line upto i nr = taking p nr (takenBy (p .count) names line upto i)
 
--- ---- the names: one row more where a line declared one, its second word
+-- ---- the names: one row more where the line's item declares one, its second word
 
 unfoldable pub nameRow : List ℕ → List ℕ
 nameRow line = padded (part line (wordAt line (wordAt line 0 .end)))
 
-unfoldable pub named : List (List ℕ) → ℕ → ℕ → List ℕ → List (List ℕ)
-named names n m line = cond (ltb n m) (names ++ (nameRow line ∷ [])) names
+unfoldable pub named : List (List ℕ) → Line → List ℕ → List (List ℕ)
+named names nothing line = names
+named names (given (refused k)) line = names
+named names (given (item it)) line = cond (declares it) (names ++ (nameRow line ∷ [])) names
 
 -- ---- the lines in order; the first empty one ends the script
 
@@ -128,10 +123,9 @@ unfoldable pub walk : List ℕ → Script → List (List ℕ) → ℕ → ℕ �
 walk s p names i nr [] = refusal 11 nr
 walk s p names i nr (l ∷ ls) =
     let t = lineStep p names l (take (i + length l) s) i nr in
+    let names' = named names (takenBy (p .count) names l (take (i + length l) s) i) l in
     cond (eqb (length l) 0) (accepted p nr)
-    (cond (eqb (t .number) 0)
-    (walk s (t .script) (named names (p .names) (t .script .names) l) (i + length l + 1) (nr + 1) ls)
-    (refusal (t .number) nr))
+    (cond (eqb (t .number) 0) (walk s (t .script) names' (i + length l + 1) (nr + 1) ls) (refusal (t .number) nr))
 
 unfoldable pub loaded : List ℕ → Outcome
 loaded s = cond (ltb 8192 (length s)) (refusal 10 0) (walk s emptyScript [] 0 1 (lines s))

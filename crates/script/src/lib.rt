@@ -6,12 +6,13 @@ use table::Item;
 use table::Script;
 use table::Slot;
 ghost use mathlib.Core.Path.{_≡_};
-ghost use Prim.Native.Nat.{_+_, _≤_, _<_};
+ghost use Prim.Native.Nat.{_≤_, _<_};
 ghost use lib.ListN.{set};
-ghost use lib.Dec.{ltb};
-ghost use mathlib.Core.Bool.{cond};
+ghost use mathlib.Core.Bool.{true, cond};
 ghost use Rattle.argument.specs.Refusal.{numberOf};
-ghost use Rattle.script.specs.Load.{emptyScript, declaresAct, declares, counted, takenOf, takenBy, nameRow, meaning, refusal, accepted, loaded};
+ghost use Rattle.script.specs.Code.{takenOf};
+ghost use Rattle.script.specs.Load.{emptyScript, declaresAct, declares, counted, takenBy, nameRow};
+ghost use Rattle.script.specs.Load.{meaning, refusal, accepted, loaded};
 
 pub enum Answer {
     Accepted,
@@ -134,18 +135,18 @@ fn name_row(line: &[u8]) -> [u8; 16]
     word::pad(&line[start..end])
 }
 
-// The names, with one more where a line declared one.
-fn put_name(names: [[u8; 16]; 32], n: usize, m: usize, line: &[u8]) -> [[u8; 16]; 32]
-    requires { ⌜ m ≤ 32 ⌝ }
-    ensures { λ r. ⌜ r ≡ cond (ltb n m) (set names n (nameRow (now (line .entry)))) names ⌝ }
+// The names, with one more where a line's item declares one.
+fn put_name(names: [[u8; 16]; 32], n: usize, item: Item, line: &[u8]) -> [[u8; 16]; 32]
+    requires { ⌜ (declares item ≡ true → n < 32) ⌝ }
+    ensures { λ r. ⌜ r ≡ cond (declares item) (set names n (nameRow (now (line .entry)))) names ⌝ }
 {
-    if n < m {
-        let row = name_row(line);
-        let mut t = names;
-        t[n] = row;
-        return t;
+    if !item_declares(item) {
+        return names;
     }
-    names
+    let row = name_row(line);
+    let mut t = names;
+    t[n] = row;
+    t
 }
 
 pub fn load(text: &[u8]) -> Loaded
@@ -179,7 +180,7 @@ pub fn load(text: &[u8]) -> Loaded
             Taken::Refused(refusal) => return refuse(refusal, here),
             Taken::Item(item) => {
                 let m = count_names(n, item);
-                names = put_name(names, n, m, line);
+                names = put_name(names, n, item, line);
                 script.items[count] = Slot { item, line: here };
                 script.count = count + 1;
                 script.names = m;

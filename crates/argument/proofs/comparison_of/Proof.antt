@@ -3,7 +3,7 @@ use mathlib.Core.List.{List, [], _∷_}
 use Prim.Native.Nat.{ℕ}
 use types.Run.{miss}
 use Rattle.value.specs.declared.Comparison.the-variants.{Equal as equal}
-use Rattle.argument.specs.Argument.{comparisonOf}
+use Rattle.argument.specs.Holds.{comparisonOf}
 use Rattle.argument.proofs.Apart.{Each, by-tag}
 use borrow.Author.Needs.{needs}
 use Rattle.argument.proofs.comparison_of.Statement.{statement}

@@ -2,7 +2,7 @@ use mathlib.Core.Path.{refl}
 use mathlib.Core.List.{List, [], _∷_}
 use Prim.Native.Nat.{ℕ}
 use types.Run.{miss}
-use Rattle.argument.specs.Argument.{nameOf}
+use Rattle.argument.specs.Holds.{nameOf}
 use Rattle.argument.proofs.Apart.{Each, by-tag}
 use borrow.Author.Needs.{needs}
 use Rattle.argument.proofs.name_of.Statement.{statement}

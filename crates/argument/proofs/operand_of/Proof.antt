@@ -5,7 +5,7 @@ use lib.IntN.{pos}
 use types.Run.{miss}
 use Rattle.value.specs.declared.Value.the-variants.{Whole as whole}
 use Rattle.table.specs.declared.Operand.the-variants.{Literal as literal}
-use Rattle.argument.specs.Argument.{operandOf}
+use Rattle.argument.specs.Holds.{operandOf}
 use Rattle.argument.proofs.Apart.{Each, by-tag}
 use borrow.Author.Needs.{needs}
 use Rattle.argument.proofs.operand_of.Statement.{statement}

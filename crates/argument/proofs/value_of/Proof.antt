@@ -4,7 +4,7 @@ use Prim.Native.Nat.{ℕ}
 use lib.IntN.{pos}
 use types.Run.{miss}
 use Rattle.value.specs.declared.Value.the-variants.{Whole as whole}
-use Rattle.argument.specs.Argument.{valueOf}
+use Rattle.argument.specs.Holds.{valueOf}
 use Rattle.argument.proofs.Apart.{Each, by-tag}
 use borrow.Author.Needs.{needs}
 use Rattle.argument.proofs.value_of.Statement.{statement}

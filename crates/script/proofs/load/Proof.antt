@@ -8,7 +8,8 @@ use lib.Seq.{length-take-le}
 use Rattle.text.specs.Cut.{lines}
 use Rattle.table.specs.declared.Script.{Script}
 use Rattle.argument.specs.Refusal.{numberOf}
-use Rattle.script.specs.Load.{takenOf, takenBy, nameRow, walk, loaded}
+use Rattle.script.specs.Load.{takenBy, nameRow, walk, loaded}
+use Rattle.script.specs.Code.{takenOf}
 use Rattle.script.proofs.Walk as L
 use Rattle.script.proofs.load.Statement.{statement}
 use Rattle.script.proofs.load.Tie as tie
@@ -106,7 +107,7 @@ count-names-requires : tie.Need-count-names-requires Inv-loop μ-loop
 count-names-requires c κs = c .before .before .before .before .before .before .before .before .before .before .before .loop .inv .1 .1 .0
 
 put-name-requires : tie.Need-put-name-requires Inv-loop μ-loop
-put-name-requires c κs = omega (arith, c .count-names .ensures, L.names-few (c .before .before .before .before .before .before .before .before .before .before .before .before .before .before .before .before .args .text .now) (c .before .before .before .before .before .before .before .before .before .before .before .before .loop .at) (c .before .before .before .before .before .before .before .before .before .before .next-byte .result) (c .before .before .before .before .before .before .before .before .before .before .next-byte .ensures .0) (c .before .before .before .before .before .before .before .before .before .before .before .before .loop .inv .0) (c .before .before .before .before .before .before .before .before .before .before .before .before .loop .script) (c .before .before .before .before .before .before .before .before .before .before .before .before .loop .names) (c .before .before .before .before .before .before .before .before .before .before .before .before .loop .number) (c .before .before .before .before .before .before .before .before .before .if2 .left) (c .before .before .before .before .before .before .before .before .if3 .left) (c .before .before .taken2 .given .0 .0) (ap takenOf (sym (c .before .before .taken2 .given .1)) ∙ told (c .before .before .before .before)) (c .before .before .before .before .before .before .before .before .before .before .before .before .loop .inv .1 .1 .0) (c .before .before .before .before .before .before .before .before .before .before .before .before .loop .inv .1 .1 .1 .0) .most)
+put-name-requires c κs = L.room-for (c .before .before .before .before .before .before .before .before .before .before .before .before .before .before .before .before .args .text .now) (c .before .before .before .before .before .before .before .before .before .before .before .before .loop .at) (c .before .before .before .before .before .before .before .before .before .before .next-byte .result) (c .before .before .before .before .before .before .before .before .before .before .next-byte .ensures .0) (c .before .before .before .before .before .before .before .before .before .before .before .before .loop .inv .0) (c .before .before .before .before .before .before .before .before .before .before .before .before .loop .script) (c .before .before .before .before .before .before .before .before .before .before .before .before .loop .names) (c .before .before .before .before .before .before .before .before .before .before .before .before .loop .number) (c .before .before .before .before .before .before .before .before .before .if2 .left) (c .before .before .before .before .before .before .before .before .if3 .left) (c .before .before .taken2 .given .0 .0) (ap takenOf (sym (c .before .before .taken2 .given .1)) ∙ told (c .before .before .before .before)) (c .before .before .before .before .before .before .before .before .before .before .before .before .loop .inv .1 .1 .0) (c .before .before .before .before .before .before .before .before .before .before .before .before .loop .inv .1 .1 .1 .0)
 
 mul-t34 : tie.Need-mul-t34 Inv-loop μ-loop
 mul-t34 c = omega (arith, L.room-left (c .before .before .before .before .before .before .before .before .before .before .before .before .before .before .before .before .before .args .text .now) (c .before .before .before .before .before .before .before .before .before .before .before .before .before .loop .at) (c .before .before .before .before .before .before .before .before .before .before .before .next-byte .result) (c .before .before .before .before .before .before .before .before .before .before .before .next-byte .ensures .0) (c .before .before .before .before .before .before .before .before .before .before .before .before .before .loop .inv .0) (c .before .before .before .before .before .before .before .before .before .before .before .before .before .loop .script) (c .before .before .before .before .before .before .before .before .before .before .before .before .before .loop .names) (c .before .before .before .before .before .before .before .before .before .before .before .before .before .loop .number) (c .before .before .before .before .before .before .before .before .before .before .if2 .left) (c .before .before .before .before .before .before .before .before .before .if3 .left) (c .before .before .before .taken2 .given .0 .0) (ap takenOf (sym (c .before .before .before .taken2 .given .1)) ∙ told (c .before .before .before .before .before)) (c .before .before .before .before .before .before .before .before .before .before .before .before .before .loop .inv .1 .1 .0) (c .before .before .before .before .before .before .before .before .before .before .before .before .before .loop .inv .1 .1 .1 .0))
@@ -128,7 +129,7 @@ loop-again c = (
     (
       omega (arith, c .before .count-names .ensures, L.names-few (c .before .before .before .before .before .before .before .before .before .before .before .before .before .before .before .before .before .args .text .now) (c .before .before .before .before .before .before .before .before .before .before .before .before .before .loop .at) (c .before .before .before .before .before .before .before .before .before .before .before .next-byte .result) (c .before .before .before .before .before .before .before .before .before .before .before .next-byte .ensures .0) (c .before .before .before .before .before .before .before .before .before .before .before .before .before .loop .inv .0) (c .before .before .before .before .before .before .before .before .before .before .before .before .before .loop .script) (c .before .before .before .before .before .before .before .before .before .before .before .before .before .loop .names) (c .before .before .before .before .before .before .before .before .before .before .before .before .before .loop .number) (c .before .before .before .before .before .before .before .before .before .before .if2 .left) (c .before .before .before .before .before .before .before .before .before .if3 .left) (c .before .before .before .taken2 .given .0 .0) (ap takenOf (sym (c .before .before .before .taken2 .given .1)) ∙ told (c .before .before .before .before .before)) (c .before .before .before .before .before .before .before .before .before .before .before .before .before .loop .inv .1 .1 .0) (c .before .before .before .before .before .before .before .before .before .before .before .before .before .loop .inv .1 .1 .1 .0) .most),
       (
-        ap length (c .put-name .ensures) ∙ L.put-long (c .before .before .before .before .before .before .before .before .before .before .before .before .before .loop .names) (c .before .before .before .before .before .before .before .before .before .before .before .before .before .loop .script .names) (c .before .count-names .result) (nameRow (L.line (c .before .before .before .before .before .before .before .before .before .before .before .before .before .before .before .before .before .args .text .now) (c .before .before .before .before .before .before .before .before .before .before .before .before .before .loop .at) (c .before .before .before .before .before .before .before .before .before .before .before .next-byte .result) (c .before .before .before .before .before .before .before .before .before .before .before .next-byte .ensures .0) (c .before .before .before .before .before .before .before .before .before .before .before .before .before .loop .inv .0))) (c .before .before .before .before .before .before .before .before .before .before .before .before .before .loop .inv .1 .1 .1 .0),
+        ap length (c .put-name .ensures) ∙ L.put-long (c .before .before .before .before .before .before .before .before .before .before .before .before .before .loop .names) (c .before .before .before .before .before .before .before .before .before .before .before .before .before .loop .script .names) (c .before .before .before .taken2 .given .0 .0) (nameRow (L.line (c .before .before .before .before .before .before .before .before .before .before .before .before .before .before .before .before .before .args .text .now) (c .before .before .before .before .before .before .before .before .before .before .before .before .before .loop .at) (c .before .before .before .before .before .before .before .before .before .before .before .next-byte .result) (c .before .before .before .before .before .before .before .before .before .before .before .next-byte .ensures .0) (c .before .before .before .before .before .before .before .before .before .before .before .before .before .loop .inv .0))) (c .before .before .before .before .before .before .before .before .before .before .before .before .before .loop .inv .1 .1 .1 .0),
         (
           omega arith,
           L.takes (c .before .before .before .before .before .before .before .before .before .before .before .before .before .before .before .before .before .args .text .now) (c .before .before .before .before .before .before .before .before .before .before .before .before .before .loop .at) (c .before .before .before .before .before .before .before .before .before .before .before .next-byte .result) (c .before .before .before .before .before .before .before .before .before .before .before .next-byte .ensures .0) (c .before .before .before .before .before .before .before .before .before .before .before .before .before .loop .inv .0) (c .before .before .before .before .before .before .before .before .before .before .before .before .before .loop .script) (c .before .before .before .before .before .before .before .before .before .before .before .before .before .loop .names) (c .before .before .before .before .before .before .before .before .before .before .before .before .before .loop .number) (c .before .before .before .before .before .before .before .before .before .before .if2 .left) (c .before .before .before .before .before .before .before .before .before .if3 .left) (c .before .before .before .taken2 .given .0 .0) (ap takenOf (sym (c .before .before .before .taken2 .given .1)) ∙ told (c .before .before .before .before .before)) (c .before .before .before .before .before .before .before .before .before .before .before .before .before .loop .inv .1 .1 .0) (c .before .before .before .before .before .before .before .before .before .before .before .before .before .loop .inv .1 .1 .1 .0) (c .before .count-names .result) (c .put-name .result) (c .before .count-names .ensures) (c .put-name .ensures) ∙ c .before .before .before .before .before .before .before .before .before .before .before .before .before .loop .inv .1 .1 .1 .1 .1,
