@@ -12,7 +12,7 @@ use Rattle.table.specs.declared.Known.{Known}
 use Rattle.table.specs.declared.Known.the-variants.{Unknown as unknown}
 use Rattle.table.specs.declared.Script.{Script}
 use Rattle.table.specs.Shape.{inShape, itemsOf}
-use Rattle.table.specs.Uses.{first}
+use Rattle.table.specs.Uses.{lowest}
 use Rattle.script.specs.Load.{loaded}
 use Rattle.rules.specs.Check.{State as Walked, begin, kindsOf, refusals, refusalsAtEnd, after}
 use Rattle.rules.specs.Check.{Verdict, accepted, refused, orGo, walk, atLine, walked, verdict}
@@ -43,9 +43,9 @@ go-tells zero i v f = f
 go-tells (suc n) i v f = λ e. absurd (omega (arith, e))
 
 walk-tells : (k : List Known) (i : ℕ) (s : Walked) (xs : List Item) → Tells (walk k i s xs)
-walk-tells k i s [] = go-tells (first (refusalsAtEnd s)) i accepted (λ e. refl)
+walk-tells k i s [] = go-tells (lowest (refusalsAtEnd s)) i accepted (λ e. refl)
 walk-tells k i s (x ∷ xs) =
-    go-tells (first (refusals k s x)) i (walk k (suc i) (after i s x) xs) (walk-tells k (suc i) (after i s x) xs)
+    go-tells (lowest (refusals k s x)) i (walk k (suc i) (after s x) xs) (walk-tells k (suc i) (after s x) xs)
 
 line-tells : (t : Script) (v : Verdict) → Tells v → Tells (atLine t v)
 line-tells t accepted f = λ e. refl
