@@ -7,7 +7,8 @@
  * several threads at once, as long as no two calls are lent the same memory.
  *
  * How much stack a function may take, those that it calls included, is SATV_STACK_ and its name, in bytes: a thread
- * that calls it must have that much left. The numbers were measured, and the tests measure them again.
+ * that calls it must have that much left. The numbers were measured, and the tests measure them again. Where a program
+ * is linked lazily, the dynamic linker may take some KB on top at the first call, to find the C library's memset.
  */
 #ifndef SATVRENGI_H
 #define SATVRENGI_H

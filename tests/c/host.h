@@ -7,7 +7,6 @@
 #include <stdint.h>
 
 #if __STDC_HOSTED__
-#include <signal.h>
 #include <stdio.h>
 #include <stdlib.h>
 #include <string.h>
@@ -32,20 +31,6 @@ long read(int, void *, size_t);
 long sysconf(int);
 void *mmap(void *, size_t, int, int, int, long);
 int mprotect(void *, size_t, int);
-int raise(int);
-typedef struct {
-    void *ss_sp;
-    int ss_flags;
-    size_t ss_size;
-} stack_t;
-struct sigaction {
-    void (*sa_handler)(int);
-    unsigned long sa_mask[16];
-    int sa_flags;
-    void (*sa_restorer)(void);
-};
-int sigaltstack(const stack_t *, stack_t *);
-int sigaction(int, const struct sigaction *, struct sigaction *);
 #ifdef __cplusplus
 /* Without this, C++ that knows no C library gives main a name of its own. */
 int main(void);
@@ -59,8 +44,6 @@ int main(void);
 #define MAP_PRIVATE 2
 #define MAP_ANONYMOUS 32
 #define MAP_FAILED ((void *)-1)
-#define SA_ONSTACK 0x08000000
-#define SIGUSR1 10
 #define _SC_PAGESIZE 30
 #endif
 

@@ -1,12 +1,11 @@
-/* How much stack each entry point takes: it is called on a stack of its own, which was painted before, and how far down
- * the paint is gone is what it took. Fails where that is more than the header says. */
+/* How much stack each entry point takes: the stack below is painted, the entry point is called, and how far down the
+ * paint is gone is what it took. Fails where that is more than the header says. */
 #define _DEFAULT_SOURCE
 #include "host.h"
 #include "satvrengi.h"
 
 enum { STACK = 1 << 20, PAINT = 0xA5 };
 
-static uint8_t painted[STACK] __attribute__((aligned(64)));
 static uint8_t bytes[SATV_MOST_REPLY + 1];
 static size_t length;
 static uint32_t numbers[SATV_MOST_ROWS * SATV_NUMBERS_A_ROW];
@@ -19,26 +18,37 @@ static void reply_rows(void) { satv_reply_rows(bytes, length, numbers, sizeof nu
 static void reply_row(void) { satv_reply_row(bytes, length, 1); }
 static void script_check(void) { satv_script_check(bytes, length); }
 
-/* What is called on the painted stack, and where that stack stood then. */
-static void (*called)(void);
-static volatile uint8_t *stood;
+/* Where the paint begins, and where the stack stood when the entry point was called. */
+static uintptr_t painted, stood;
 
-static void on_painted_stack(int signal)
+static __attribute__((noinline)) void paint(void)
 {
-    volatile uint8_t here = (uint8_t)signal;
-    stood = &here;
-    called();
+    volatile uint8_t area[STACK];
+    for (size_t i = 0; i < sizeof area; i++)
+        area[i] = PAINT;
+    painted = (uintptr_t)area;
+}
+
+static __attribute__((noinline)) void call(void (*function)(void))
+{
+    volatile uint8_t here = 0;
+    stood = (uintptr_t)&here;
+    function();
+    /* So that this is still there while the function runs. */
+    here = 1;
 }
 
 static size_t taken_by(void (*function)(void))
 {
     size_t untouched = 0;
-    memset(painted, PAINT, sizeof painted);
-    called = function;
-    raise(SIGUSR1);
-    while (untouched < sizeof painted && painted[untouched] == PAINT)
+    /* Once before: what the dynamic linker needs to bind a name of the C library is not the entry point's. */
+    call(function);
+    paint();
+    call(function);
+    const volatile uint8_t *at = (const volatile uint8_t *)painted;
+    while (untouched < STACK && at[untouched] == PAINT)
         untouched++;
-    return (size_t)(stood - (painted + untouched));
+    return stood - (painted + untouched);
 }
 
 /* Text with `|` for newline becomes the bytes; it is put there so many times, and then its end once. */
@@ -92,18 +102,6 @@ static void measure(const char *name, void (*function)(void), size_t most)
 
 int main(void)
 {
-    stack_t stack;
-    struct sigaction action;
-    memset(&stack, 0, sizeof stack);
-    memset(&action, 0, sizeof action);
-    stack.ss_sp = painted;
-    stack.ss_size = sizeof painted;
-    action.sa_handler = on_painted_stack;
-    action.sa_flags = SA_ONSTACK;
-    if (sigaltstack(&stack, NULL) != 0 || sigaction(SIGUSR1, &action, NULL) != 0) {
-        perror("stack");
-        return 2;
-    }
     measure("satv_frame_read", frame_read, SATV_STACK_FRAME_READ);
     measure("satv_frame_write", frame_write, SATV_STACK_FRAME_WRITE);
     measure("satv_reply_read", reply_read, SATV_STACK_REPLY_READ);
