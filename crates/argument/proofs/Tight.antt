@@ -11,7 +11,7 @@ use Rattle.argument.specs.declared.Form.{Form}
 use Rattle.argument.specs.declared.Argument.{Argument}
 use Rattle.argument.specs.declared.Said.{Said}
 use Rattle.argument.specs.Refusal.{numberOf}
-use Rattle.argument.specs.Argument.{saidAt}
+use Rattle.argument.specs.Argument.{SaysAt}
 use Rattle.argument.specs.Holds.{nameOf, operandOf, valueOf, lettersOf, smallOf, comparisonOf, textOf, wrongOf}
 use Rattle.argument.specs.Code.{numbered}
 
@@ -43,5 +43,6 @@ pub only-wrong-of : (x : Argument) (r r' : ℕ)
     → r ≡ numbered (wrongOf x) → r' ≡ numbered (wrongOf x) → r ≡ r'
 only-wrong-of x r r' e e' = e ∙ sym e'
 
-pub only-say-at : (names : List (List ℕ)) (line : List ℕ) (form : Form) (i : ℕ) (r r' : Said) → r ≡ saidAt names line form i → r' ≡ saidAt names line form i → r ≡ r'
-only-say-at names line form i r r' e e' = e ∙ sym e'
+pub only-say-at : (names : List (List ℕ)) (line : List ℕ) (form : Form) (i : ℕ) (r r' : Said)
+    → SaysAt names line form i r → SaysAt names line form i r' → r ≡ r'
+only-say-at names line form i r r' e e' = e .says ∙ sym (e' .says)

@@ -1,8 +1,9 @@
 -- 01, "Script text": what an argument's word says where a form is asked, and what is wrong with it.
 -- v is a name, x a name or literal, f a float x (its kind is judged later), t a type, n digits 0 to 255.
+use mathlib.Core.Path.{_≡_}
 use mathlib.Core.Bool.{Bool, true, false, cond}
 use mathlib.Core.List.{List, [], _∷_}
-use Prim.Native.Nat.{ℕ, _+_}
+use Prim.Native.Nat.{ℕ, _+_, _≤_}
 use lib.Dec.{ltb, eqb}
 use lib.ListN.{length, drop, getD}
 use Rattle.text.specs.Cut.{before}
@@ -140,3 +141,8 @@ isText F.Text = true
 unfoldable pub saidAt : List (List ℕ) → List ℕ → Form → ℕ → Said
 saidAt names line form i =
     cond (isText form) (textAt line i) (stopped (said form names (part line (wordAt line i))) (wordAt line i .end))
+
+-- r is that argument, and one that begins within the line stops within it
+pub record SaysAt (names : List (List ℕ)) (line : List ℕ) (form : Form) (i : ℕ) (r : Said) : Type 0 where
+  pub says : r ≡ saidAt names line form i
+  pub inside : i ≤ length line → r .stop ≤ length line

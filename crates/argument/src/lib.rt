@@ -16,7 +16,8 @@ ghost use Rattle.argument.specs.Holds.{nameOf, operandOf, valueOf, lette
 ghost use Rattle.argument.specs.Holds.{comparisonOf, textOf, wrongOf};
 ghost use Rattle.argument.specs.Code.{numbered};
 ghost use Rattle.argument.specs.Argument.{emptySaid, newSaid, nameSaid, literalSaid, operandSaid, typeSaid};
-ghost use Rattle.argument.specs.Argument.{numberSaid, comparisonAt, comparisonSaid, said, isText, textAt, saidAt};
+ghost use Rattle.argument.specs.Argument.{numberSaid, comparisonAt, comparisonSaid, said, isText, textAt};
+ghost use Rattle.argument.specs.Argument.{SaysAt};
 
 // What is wrong with a script's text.
 pub enum Refusal {
@@ -338,8 +339,7 @@ fn text_at(line: &[u8], at: usize) -> Said
 
 // The argument that begins at a place.
 pub fn say_at(form: Form, line: &[u8], at: usize, names: &[[u8; 16]]) -> Said
-    ensures { λ r. ⌜ r ≡ saidAt (now (names .entry)) (now (line .entry)) form at ⌝ }
-    ensures inside { λ r. ⌜ (at ≤ length (now (line .entry)) → r .stop ≤ length (now (line .entry))) ⌝ }
+    ensures { λ r. ⌜ SaysAt (now (names .entry)) (now (line .entry)) form at r ⌝ }
 {
     if is_text(form) {
         return text_at(line, at);

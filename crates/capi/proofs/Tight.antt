@@ -4,13 +4,12 @@ use mathlib.Core.Path.{_≡_, sym, _∙_}
 use mathlib.Core.List.{List}
 use Prim.Native.Nat.{ℕ}
 use Rattle.frame.specs.Frame.{read, write}
-use Rattle.reply.specs.Numbers.{roomIn, numbersOf}
 use Rattle.reply.specs.Reply.{outcomeOf}
 use Rattle.vetting.specs.Vet.{vetted}
 use Rattle.capi.specs.Frames.{SatvFrame, frameNumbers, wrote, frameWritten}
 use Rattle.capi.specs.declared.replies.SatvReply.{SatvReply}
 use Rattle.capi.specs.declared.replies.SatvRow.{SatvRow}
-use Rattle.capi.specs.Replies.{replyNumbers, rowNumbers}
+use Rattle.capi.specs.Replies.{replyNumbers, RowsNumbered, rowNumbers}
 use Rattle.capi.specs.Scripts.{SatvVerdict, verdictNumbers}
 
 pub only-satv-frame-read : (line : List ℕ) (expected : ℕ) (x y : SatvFrame)
@@ -31,10 +30,8 @@ pub only-satv-reply-read : (s : List ℕ) (x y : SatvReply)
 only-satv-reply-read s x y h k = h ∙ sym k
 
 pub only-satv-reply-rows : (s lent : List ℕ) (x y : SatvReply) (out out′ : List ℕ)
-    → (x ≡ replyNumbers (outcomeOf (roomIn lent) s)) × (out ≡ numbersOf s lent)
-    → (y ≡ replyNumbers (outcomeOf (roomIn lent) s)) × (out′ ≡ numbersOf s lent)
-    → (x ≡ y) × (out ≡ out′)
-only-satv-reply-rows s lent x y out out′ h k = (h .0 ∙ sym (k .0), h .1 ∙ sym (k .1))
+    → RowsNumbered s lent x out → RowsNumbered s lent y out′ → (x ≡ y) × (out ≡ out′)
+only-satv-reply-rows s lent x y out out′ h k = (h .result ∙ sym (k .result), h .numbers ∙ sym (k .numbers))
 
 pub only-satv-reply-row : (s : List ℕ) (row : ℕ) (x y : SatvRow)
     → x ≡ rowNumbers s row → y ≡ rowNumbers s row → x ≡ y

@@ -10,10 +10,11 @@ goodFrame length next = record { result = 0; next = next; length = length }
 abbrev pub badFrame : ℕ → ℕ → SatvFrame
 badFrame result number = record { result = result; next = number; length = 0 }
 
--- result 0, the length and the next number; or a refusal's number, no length, and the caller's number as it was
+-- result 0, the length and the next number; or a refusal's number, no length, and the caller's number as it was: its
+-- place is always 0, and C gets none
 unfoldable pub frameNumbers : ℕ → Answer → SatvFrame
 frameNumbers number (accepted length next) = goodFrame length next
-frameNumbers number (refused result) = badFrame result number
+frameNumbers number (refused result place) = badFrame result number
 
 -- the writer's numbers, and the lent buffer as it then is
 pub data Wrote : Type 0 where

@@ -1,8 +1,7 @@
 // The reply reader for C: the result of a reply, all its rows as numbers, and one row by its number.
 ghost use mathlib.Core.Path.{_≡_};
-ghost use Rattle.reply.specs.Numbers.{roomIn, numbersOf};
 ghost use Rattle.reply.specs.Reply.{meaning, outcomeOf};
-ghost use Rattle.capi.specs.Replies.{replyNumbers, noRow, rowFields, rowNumbers};
+ghost use Rattle.capi.specs.Replies.{replyNumbers, RowsNumbered, noRow, rowFields, rowNumbers};
 use super::GOOD;
 use reply::Answer;
 use reply::Row;
@@ -69,8 +68,7 @@ pub extern "C" fn satv_reply_read(reply: &[u8]) -> SatvReply
 // A row is four of the lent numbers: the letter of its kind, its mark, its parent row, its packages.
 #[no_mangle]
 pub extern "C" fn satv_reply_rows(reply: &[u8], numbers: &mut [u32]) -> SatvReply
-    ensures { λ r. ⌜ (r ≡ replyNumbers (outcomeOf (roomIn (now (numbers .entry))) (now (reply .entry))))
-        × (now (numbers .exit) ≡ numbersOf (now (reply .entry)) (now (numbers .entry))) ⌝ }
+    ensures { λ r. ⌜ RowsNumbered (now (reply .entry)) (now (numbers .entry)) r (now (numbers .exit)) ⌝ }
 {
     told(reply::numbers::read_numbers(reply, numbers))
 }

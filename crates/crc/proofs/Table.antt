@@ -4,7 +4,7 @@ use Prim.Native.Nat.{ℕ, zero, suc, _+_, _*_, _<_}
 use native.Mathlib.Nat.{add-zero, zero-add, add-suc, suc-add, le-of-suc-le-suc, not-suc-le-zero}
 use lib.ListN.{getD}
 use Rattle.crc.specs.Crc.{shifts}
-use Rattle.crc.specs.Table.{entries}
+use Rattle.crc.specs.Code.{entries}
 
 eight : ℕ → ℕ
 eight b = shifts 8 (b * 0x100)

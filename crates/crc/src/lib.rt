@@ -1,7 +1,7 @@
 // The CRC-16 of a slice, a byte at a time, by a table of what eight bits add.
 ghost use mathlib.Core.Path.{_≡_};
 ghost use Rattle.crc.specs.Crc.{step, crc};
-ghost use Rattle.crc.specs.Table.{entries};
+ghost use Rattle.crc.specs.Code.{entries};
 
 const START: u16 = 0xFFFF;
 

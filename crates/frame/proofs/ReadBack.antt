@@ -97,7 +97,7 @@ without s n buf =
 
 -- what a writer's acceptance tells
 told : (m j k l : ℕ) (out whole kept₁ kept₂ : List ℕ) (u t : Bool)
-    → cond u (leaves (refused 1) kept₁) (cond t (leaves (refused 5) kept₂) (leaves (accepted k l) whole)) ≡ leaves (accepted m j) out
+    → cond u (leaves (refused 1 0) kept₁) (cond t (leaves (refused 5 0) kept₂) (leaves (accepted k l) whole)) ≡ leaves (accepted m j) out
     → (u ≡ false) × ((m ≡ k) × ((j ≡ l) × (out ≡ whole)))
 told m j k l out whole kept₁ kept₂ true t e = let z : _≡_ {A = ℕ} 0 1 = cc in absurd (omega arith)
 told m j k l out whole kept₁ kept₂ false true e = let z : _≡_ {A = ℕ} 0 1 = cc in absurd (omega arith)

@@ -27,7 +27,7 @@ named-back shortBuffer = refl
 
 read-of : Answer → ReadFrame
 read-of (accepted k n) = Read.Content k (record { 0 = n })
-read-of (refused n) = Read.Refused (named n)
+read-of (refused n place) = Read.Refused (named n)
 
 read-back : (x : ReadFrame) → read-of (meaningRead x) ≡ x
 unfolding read-of meaningRead
@@ -36,7 +36,7 @@ read-back (Read.Refused r) = ap Read.Refused (named-back r)
 
 written-of : Answer → WrittenFrame
 written-of (accepted k n) = Write.Written k (record { 0 = n })
-written-of (refused n) = Write.Refused (named n)
+written-of (refused n place) = Write.Refused (named n)
 
 written-back : (x : WrittenFrame) → written-of (meaningWritten x) ≡ x
 unfolding written-of meaningWritten

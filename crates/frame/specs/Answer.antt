@@ -1,4 +1,5 @@
--- 01, the table of numbers, 1 to 5: the number of each refusal, and what each answer of the code says. Assumes nothing.
+-- 01, the table of numbers, 1 to 5: the number of each refusal, and what each answer of the code says. "A refusal
+-- returns its number and place (.. 0 .. where there is none)": none of these has a place. Assumes nothing.
 use Prim.Native.Nat.{ℕ}
 use Rattle.frame.specs.Frame.{Answer, refused, accepted}
 pub use Rattle.frame.specs.declared.Refusal.{Refusal}
@@ -18,9 +19,9 @@ numberOf shortBuffer = 5
 -- the reader's: content of so many bytes, and the next expected number
 unfoldable pub meaningRead : ReadFrame → Answer
 meaningRead (Read.Content length next) = accepted length (next .0)
-meaningRead (Read.Refused refusal) = refused (numberOf refusal)
+meaningRead (Read.Refused refusal) = refused (numberOf refusal) 0
 
 -- the writer's: so many bytes written, and the next host number
 unfoldable pub meaningWritten : WrittenFrame → Answer
 meaningWritten (Write.Written length next) = accepted length (next .0)
-meaningWritten (Write.Refused refusal) = refused (numberOf refusal)
+meaningWritten (Write.Refused refusal) = refused (numberOf refusal) 0

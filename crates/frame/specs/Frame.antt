@@ -10,9 +10,9 @@ use Rattle.text.specs.declared.Hex.the-variants.{Number as number, Bad as bad}
 use Rattle.text.specs.Hex.{readHex, hex2, hex4}
 use Rattle.text.specs.Put.{put}
 
--- an answer: the number of a refusal, which yields nothing; or so many bytes, and the next number
+-- an answer: a refusal's number and place (0: it has none), which yields nothing; or so many bytes, and the next number
 pub data Answer : Type 0 where
-  refused : ℕ → Answer
+  refused : (number place : ℕ) → Answer
   accepted : ℕ → ℕ → Answer
 
 -- "each counts up by one, FF to 00"
@@ -50,13 +50,13 @@ rightNumber line k expected = says (readHex 2 line k) expected
 -- with k bytes of content
 unfoldable pub readContent : List ℕ → ℕ → ℕ → Answer
 readContent line k expected =
-    cond (ltb 127 k) (refused 1)
-    (cond (not (rightCrc line k)) (refused 3)
-    (cond (not (rightNumber line k expected)) (refused 4)
+    cond (ltb 127 k) (refused 1 0)
+    (cond (not (rightCrc line k)) (refused 3 0)
+    (cond (not (rightNumber line k expected)) (refused 4 0)
     (accepted k (next expected))))
 
 unfoldable pub read : List ℕ → ℕ → Answer
-read line expected = cond (ltb (length line) 6) (refused 2) (readContent line (length line - 6) expected)
+read line expected = cond (ltb (length line) 6) (refused 2 0) (readContent line (length line - 6) expected)
 
 -- ---- "The writer tests 1, then 5, and writes no byte after the newline"
 
@@ -70,6 +70,6 @@ unfit content = ltb 127 (length content) || contains 10 content
 
 unfoldable pub write : List ℕ → ℕ → List ℕ → Written
 write content n buf =
-    cond (unfit content) (leaves (refused 1) buf)
-    (cond (ltb (length buf) (length content + 7)) (leaves (refused 5) buf)
+    cond (unfit content) (leaves (refused 1 0) buf)
+    (cond (ltb (length buf) (length content + 7)) (leaves (refused 5 0) buf)
     (leaves (accepted (length content + 7) (next n)) (put buf 0 (framed content n))))

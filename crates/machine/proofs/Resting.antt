@@ -13,7 +13,7 @@ use Rattle.state.proofs.Tight.{same-run}
 use Rattle.machine.specs.Words.{Control, noControl, Z, Y, Offer, State, Stepped}
 use Rattle.machine.specs.Machine.{told, step}
 use Rattle.machine.specs.Exact.{Exact, toldTo, resting}
-use Rattle.machine.specs.Settle.{Settled}
+use Rattle.machine.specs.Code.{Settled}
 use Rattle.machine.specs.Course.{Course, runFrom, allStay, restingAll, Comes}
 use Rattle.machine.proofs.Shapes.{and-l, and-r}
 use Rattle.machine.proofs.Keeping.{leftOf, step-rests}
@@ -32,7 +32,7 @@ resting-run xs m c rules.waiting = told-run xs m c
 resting-run xs m c rules.finished = refl
 resting-run xs m c (rules.stopped s) = refl
 resting-run xs m c (rules.fault n) = refl
-resting-run xs m c (rules.refuse n) = refl
+resting-run xs m c (rules.refuse n k) = refl
 
 -- what a control does not touch
 pub record Alike (a b : State) : Type 0 where
@@ -44,9 +44,7 @@ same : (m : State) → Alike m m
 same m = record { row = refl; deep = refl; stood = refl }
 
 told-alike : (xs : List Item) (m : State) (c : Control) → Alike (toldTo xs m c) m
-told-alike xs m noControl = same m
-told-alike xs m Z = record { row = refl; deep = refl; stood = refl }
-told-alike xs m Y = record { row = refl; deep = refl; stood = refl }
+told-alike xs m c = record { row = refl; deep = refl; stood = refl }
 
 pub resting-alike : (xs : List Item) (m : State) (c : Control) (a : rules.Answer) → Alike (resting xs m c a) m
 resting-alike xs m c rules.running = same m
@@ -54,7 +52,7 @@ resting-alike xs m c rules.waiting = told-alike xs m c
 resting-alike xs m c rules.finished = same m
 resting-alike xs m c (rules.stopped s) = same m
 resting-alike xs m c (rules.fault n) = same m
-resting-alike xs m c (rules.refuse n) = same m
+resting-alike xs m c (rules.refuse n k) = same m
 
 pub alike-neat : (a b : State) → Alike a b → Neat b → Neat a
 alike-neat a b e n = rw (e .row, e .deep) n

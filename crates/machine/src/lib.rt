@@ -44,23 +44,22 @@ ghost use Rattle.table.specs.declared.Operand.the-variants.{Name as name};
 ghost use Rattle.table.specs.declared.Item.the-variants.{Open as opens, Branch as branch};
 ghost use Rattle.table.specs.declared.Head.the-variants.{If as if'};
 ghost use Rattle.table.specs.declared.Branch.the-variants.{ElseIf as elseif};
-ghost use Rattle.table.specs.Uses.{lowest as first, gives, conditionUses};
+ghost use Rattle.table.specs.Uses.{lowest, conditionUses};
 ghost use Rattle.table.specs.Code.{allWants};
 ghost use Rattle.table.specs.Shape.{itemsOf, inShape};
 ghost use Rattle.mates.specs.Mates.{boxesAt, itemAt};
-ghost use Rattle.mates.specs.Marks.{Marked, Seen};
+ghost use Rattle.mates.specs.Code.{Marked, Seen};
 ghost use Rattle.machine.specs.Machine as rules;
 ghost use Rattle.state.specs.State as runs;
-ghost use Rattle.state.specs.State.{cellAt, cellType, valueOf, holds, keep, goto, pend, said, asksNothing, cleared, outer};
-ghost use Rattle.machine.specs.Machine.{next, anyOpen, unwind, leaveOuts, inside, strays, readFaults, tried, choose, kept, runAct, runPack, enter, leave};
+ghost use Rattle.state.specs.State.{cellAt, cellType, valueOf, holds, keep, goto, pend, said, cleared, outer};
+ghost use Rattle.machine.specs.Machine.{next, anyOpen, unwind, leaveOuts, inside, strays, astray, tooDeep, readFaults, tried, otherwise, kept, runAct, runPack, enter, leave};
 ghost use Rattle.machine.specs.Machine.{runPoint, runSweep, runHead, chosen, runBranch, runEndloop, runClose, runBreak, served, orFault, badOf, finish, atEnd};
-ghost use Rattle.machine.specs.Machine.{atItem, told, tagFrom, aborted, moved, again, opensOk, runOk};
+ghost use Rattle.machine.specs.Machine.{atItem, told, tagFrom, ahead, aborted, moved, again, opensOk, runOk};
 ghost use Rattle.state.specs.Meaning.{runOf, answerOf, tops, outOf, meaning};
 ghost use Rattle.machine.specs.Exact.{Exact};
-ghost use Rattle.machine.specs.Settle.{Faithful, Settled, boxOk, least, stepKnown};
 ghost use Rattle.machine.specs.Course.{stepsOf, ExactRun};
-ghost use Rattle.machine.specs.Moves.{Stands, ninth, placeOf};
-ghost use Rattle.machine.specs.Code.{handedOf, troubleOf, boxFault, triedBy, triedAt, chosenOf, chosenAt};
+ghost use Rattle.machine.specs.Code.{handedOf, troubleOf, placeOf, chosenOf, triedBy, triedAt, chosenAt, Stands, ninth};
+ghost use Rattle.machine.specs.Code.{boxOk, stepKnown, Faithful, Settled, least};
 
 const BOXES: usize = 8;
 
@@ -208,7 +207,7 @@ enum Trouble {
 }
 
 fn first_fault(unwritten: bool, kind: bool, stray: bool, ninth: bool, order: bool) -> Trouble
-    ensures { λ r. ⌜ troubleOf r ≡ first ((60, unwritten) ∷ (61, kind) ∷ (62, stray) ∷ (63, ninth) ∷ (64, order) ∷ []) ⌝ }
+    ensures { λ r. ⌜ troubleOf r ≡ lowest ((60, unwritten) ∷ (61, kind) ∷ (62, stray) ∷ (63, ninth) ∷ (64, order) ∷ []) ⌝ }
 {
     if unwritten {
         return Trouble::Fault(Fault::Unwritten);
@@ -268,7 +267,7 @@ fn strays_here(marks: Marks, m: State) -> bool
 // 62: no closing mate, not the innermost box's mark, or no open loop.
 fn box_fault(marks: Marks, m: State, x: Item) -> bool
     requires { ⌜ m .depth ≤ 8 ⌝ }
-    ensures { λ r. ⌜ Seen (marks .at) (λ xs. itemAt xs (m .at) ≡ x → r ≡ boxFault xs (runOf m) x) ⌝ }
+    ensures { λ r. ⌜ Seen (marks .at) (λ xs. itemAt xs (m .at) ≡ x → r ≡ astray xs (runOf m) x) ⌝ }
 {
     let at = m.at;
     match x {
@@ -301,7 +300,7 @@ fn ninth_box(m: State, h: Head) -> bool
 
 fn depth_fault(m: State, x: Item) -> bool
     requires { ⌜ m .depth ≤ 8 ⌝ }
-    ensures { λ r. ⌜ r ≡ (isOpen x && leb 8 (length (runOf m .boxes)) && not (opensA isLoop x && inside (m .at) (runOf m .boxes))) ⌝ }
+    ensures { λ r. ⌜ r ≡ tooDeep (runOf m) x ⌝ }
 {
     match x {
         Item::Act(_) => false,
@@ -317,7 +316,7 @@ fn depth_fault(m: State, x: Item) -> bool
 // The lowest fault of the item x at which the run stands.
 fn faults_of(marks: Marks, m: State, x: Item) -> Trouble
     requires { ⌜ m .depth ≤ 8 ⌝ }
-    ensures { λ r. ⌜ Seen (marks .at) (λ xs. itemAt xs (m .at) ≡ x → troubleOf r ≡ first (rules.faults xs (runOf m) x)) ⌝ }
+    ensures { λ r. ⌜ Seen (marks .at) (λ xs. itemAt xs (m .at) ≡ x → troubleOf r ≡ lowest (rules.faults xs (runOf m) x)) ⌝ }
 {
     let ws = reads_at(x);
     let packed = m.packed;
@@ -345,7 +344,7 @@ enum Tried {
 }
 
 fn first_of_reads(unwritten: bool, kind: bool) -> Trouble
-    ensures { λ r. ⌜ troubleOf r ≡ first ((60, unwritten) ∷ (61, kind) ∷ []) ⌝ }
+    ensures { λ r. ⌜ troubleOf r ≡ lowest ((60, unwritten) ∷ (61, kind) ∷ []) ⌝ }
 {
     if unwritten {
         return Trouble::Fault(Fault::Unwritten);
@@ -357,7 +356,7 @@ fn first_of_reads(unwritten: bool, kind: bool) -> Trouble
 }
 
 fn condition_faults(m: State, c: Condition) -> Trouble
-    ensures { λ r. ⌜ troubleOf r ≡ first (readFaults (runOf m .vars) (conditionUses c)) ⌝ }
+    ensures { λ r. ⌜ troubleOf r ≡ lowest (readFaults (runOf m .vars) (conditionUses c)) ⌝ }
 {
     let left = c.left;
     let right = c.right;
@@ -424,7 +423,7 @@ fn try_at(script: Script, marks: Marks, m: State, p: usize, j: usize) -> Tried
 // Where the false condition of the if at which the run stands leads.
 fn choose_mate(script: Script, marks: Marks, m: State) -> Chosen
     requires { ⌜ (script .count ≤ 128) × Marked (itemsOf script) (marks .at) ⌝ }
-    ensures { λ r. ⌜ chosenOf r ≡ choose (runOf m .vars) (m .at) (m .at) (boxesAt (itemsOf script) (m .at)) (drop (m .at) (itemsOf script)) ⌝ }
+    ensures { λ r. ⌜ chosenOf r ≡ otherwise (itemsOf script) (runOf m) ⌝ }
 {
     let p = m.at;
     let n = script.count;
@@ -842,7 +841,7 @@ fn run_end(before: State, m: State, o: Offer) -> Stepped
 
 fn serve_item(marks: Marks, before: State, m: State, x: Item, c: Chosen, o: Offer) -> Stepped
     requires { ⌜ Stands (runOf m) × ((isOpen x && ninth (runOf m) (opensA isLoop x)) ≡ false) ⌝ }
-    ensures { λ r. ⌜ Seen (marks .at) (λ xs. chosenOf c ≡ chosenAt xs (runOf m) x → meaning r ≡ served (runOf before) (runOf m) (runs.meets (gives x) o) (rules.run xs (runOf m) x o)) ⌝ }
+    ensures { λ r. ⌜ Seen (marks .at) (λ xs. chosenOf c ≡ chosenAt xs (runOf m) x → meaning r ≡ served (runOf before) (runOf m) (runs.meets (runs.wantedBy x) o) (rules.run xs (runOf m) x o)) ⌝ }
 {
     let q = state::offer_meets(table::writes(x), o);
     match q {
@@ -854,7 +853,7 @@ fn serve_item(marks: Marks, before: State, m: State, x: Item, c: Chosen, o: Offe
 
 fn try_item(marks: Marks, before: State, m: State, x: Item, c: Chosen, o: Offer) -> Stepped
     requires { ⌜ Stands (runOf m) × ((isOpen x && ninth (runOf m) (opensA isLoop x)) ≡ false) ⌝ }
-    ensures { λ r. ⌜ Seen (marks .at) (λ xs. chosenOf c ≡ chosenAt xs (runOf m) x → meaning r ≡ orFault (badOf (chosenOf c)) (runOf m) (served (runOf before) (runOf m) (runs.meets (gives x) o) (rules.run xs (runOf m) x o))) ⌝ }
+    ensures { λ r. ⌜ Seen (marks .at) (λ xs. chosenOf c ≡ chosenAt xs (runOf m) x → meaning r ≡ orFault (badOf (chosenOf c)) (runOf m) (served (runOf before) (runOf m) (runs.meets (runs.wantedBy x) o) (rules.run xs (runOf m) x o))) ⌝ }
 {
     match c {
         Chosen::Into(_) => serve_item(marks, before, m, x, c, o),
@@ -889,7 +888,7 @@ fn finish_cleared(marks: Marks, before: State, m: State, o: Offer) -> Stepped
 
 fn go_to_tag(marks: Marks, before: State, m: State, o: Offer, i: usize) -> Stepped
     requires { ⌜ Stands (runOf m) × (i ≤ 128) ⌝ }
-    ensures { λ r. ⌜ Seen (marks .at) (λ xs. meaning r ≡ served (runOf before) (cleared (runOf m) i) (asksNothing o) (said (leaveOuts xs (runOf m .boxes)) (next (cleared (runOf m) i)))) ⌝ }
+    ensures { λ r. ⌜ Seen (marks .at) (λ xs. meaning r ≡ served (runOf before) (cleared (runOf m) i) (runs.meets runs.wantsNothing o) (said (leaveOuts xs (runOf m .boxes)) (next (cleared (runOf m) i)))) ⌝ }
 {
     let q = state::asks_nothing(o);
     match q {
@@ -905,7 +904,7 @@ fn go_to_tag(marks: Marks, before: State, m: State, o: Offer, i: usize) -> Stepp
 // A pending abort takes effect.
 fn step_abort(script: Script, marks: Marks, before: State, m: State, o: Offer) -> Stepped
     requires { ⌜ Stands (runOf m) × (script .count ≤ 128) × Marked (itemsOf script) (marks .at) ⌝ }
-    ensures { λ r. ⌜ meaning r ≡ aborted (itemsOf script) (runOf before) (runOf m) o (tagFrom 0 (itemsOf script)) ⌝ }
+    ensures { λ r. ⌜ meaning r ≡ aborted (itemsOf script) (runOf before) (runOf m) o (ahead (m .at) (tagFrom 0 (itemsOf script))) ⌝ }
 {
     let at = m.at;
     let p = first_tag(script);

@@ -11,8 +11,8 @@ use Rattle.reply.specs.declared.Row.{Row}
 use Rattle.reply.specs.declared.Stand.{Stand}
 use Rattle.reply.specs.declared.Turn.{Turn}
 use Rattle.reply.specs.Reply.{verdict, meaning, outcomeOf}
-use Rattle.reply.specs.Table.{standing, startIn, placeIn, turned}
-use Rattle.reply.specs.Numbers.{roomIn, numbersOf, rowIn, cutRow, putRow, numbersFrom}
+use Rattle.reply.specs.Numbers.{roomIn, numbersOf, rowIn}
+use Rattle.reply.specs.Code.{standing, startIn, placeIn, turned, cutRow, putRow, numbersFrom}
 use Rattle.reply.proofs.Turns.{place-below, ahead}
 use Rattle.reply.proofs.Whole.{has-rows}
 use Rattle.reply.proofs.Passing.{one-turn, no-turn, numbers-are}

@@ -16,7 +16,8 @@ use Rattle.reply_line.specs.declared.Kind.the-variants as Kind
 use Rattle.reply_line.specs.Line.{letterOf}
 use Rattle.reply.specs.declared.Row.{Row}
 use Rattle.reply.specs.Rows.{scriptRow}
-use Rattle.reply.specs.Numbers.{fourOf, listed, kindOf, rowAt, rowIn, cutRow, putRow}
+use Rattle.reply.specs.Numbers.{fourOf, listed, kindOf, rowAt, rowIn}
+use Rattle.reply.specs.Code.{cutRow, putRow}
 
 -- ---- rows in front of lent numbers
 

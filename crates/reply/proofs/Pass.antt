@@ -29,9 +29,10 @@ use Rattle.reply.specs.declared.Seen.{Seen}
 use Rattle.reply.specs.declared.Stand.{Stand}
 use Rattle.reply.specs.declared.Change.{Change}
 use Rattle.reply.specs.Reply.{Open, step, goes, refused, opened, byMove, verdictFrom}
-use Rattle.reply.specs.Code.{nextLine}
+use Rattle.reply.specs.Lines.{nextLine}
+use Rattle.reply.specs.Code.{seenAt, placeBy, oneMore, raisedRow, changeBy, clamp, placeIn, turned, turnAt}
+use Rattle.reply.specs.Code.{rowsAt, tableFrom}
 use Rattle.reply.specs.Rows.{scriptRow, newRow, raised, rowsAfter, insideAfter, whileOn, rowsFrom, over, isOpening, isPackage, packagesOf}
-use Rattle.reply.specs.Table.{seenAt, placeBy, oneMore, raisedRow, changeBy, clamp, placeIn, turned, turnAt, rowsAt, tableFrom}
 use Rattle.reply.proofs.Lines.{Stands, stands, serves, goes-on, ends-here, refused-here, no-line, no-more}
 use Rattle.reply.proofs.Rows.{Sound, sound-step, length-after, total-after}
 use Rattle.reply.proofs.Turns.{seen-text}

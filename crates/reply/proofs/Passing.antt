@@ -26,9 +26,9 @@ use Rattle.reply.specs.declared.Stand.{Stand}
 use Rattle.reply.specs.declared.Change.{Change}
 use Rattle.reply.specs.Reply.{Open, step, goes, refused, opened, begun, verdict}
 use Rattle.reply.specs.Rows.{scriptRow, newRow, raised, rowsAfter, insideAfter, rowsFrom, rowsOf, packagesOf}
-use Rattle.reply.specs.Table.{seenAt, placeBy, oneMore, raisedRow, changeBy, clamp, standing, startIn}
-use Rattle.reply.specs.Table.{placeIn, turned}
-use Rattle.reply.specs.Numbers.{listed, roomIn, numbersAfter, numbersOf, rowIn, putRow, turnIn, numbersFrom}
+use Rattle.reply.specs.Numbers.{listed, roomIn, numbersAfter, numbersOf, rowIn}
+use Rattle.reply.specs.Code.{seenAt, placeBy, oneMore, raisedRow, changeBy, clamp, standing, startIn, placeIn}
+use Rattle.reply.specs.Code.{turned, putRow, turnIn, numbersFrom}
 use Rattle.reply.proofs.Lines.{Stands, stands}
 use Rattle.reply.proofs.Rows.{Sound}
 use Rattle.reply.proofs.Listed.{Small, row-back, put-over, put-next, put-first, four-fit}

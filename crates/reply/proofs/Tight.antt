@@ -5,7 +5,7 @@ use mathlib.Core.List.{List}
 use Prim.Native.Nat.{ℕ}
 use native.Mathlib.Omega.{arith}
 use lib.Dec.{eqb}
-use lib.ListN.{length, getD}
+use lib.ListN.{getD}
 use Rattle.reply_line.specs.declared.Refusal.{Refusal}
 use Rattle.reply_line.specs.declared.Refusal.the-variants as Refusal
 use Rattle.reply_line.specs.Line.{numberOf}
@@ -15,11 +15,11 @@ use Rattle.reply.specs.declared.NextLine.{NextLine}
 use Rattle.reply.specs.declared.Row.{Row}
 use Rattle.reply.specs.Reply.{meaning, outcomeOf}
 use Rattle.reply.specs.declared.Table.{Table}
-use Rattle.reply.specs.Rows.{scriptRow, tableOf, Tabled, tableMeaning, readTable}
-use Rattle.reply.specs.Numbers.{roomIn, numbersOf, rowIn}
+use Rattle.reply.specs.Rows.{scriptRow, ReadRows, Tabled, tableMeaning, readTable}
+use Rattle.reply.specs.Lines.{Begins, Serves}
+use Rattle.reply.specs.Numbers.{ReadNumbers, rowIn}
 use denote.Ref.{RefT}
 use Rattle.reply.specs.declared.LineReader.{LineReader}
-use Rattle.reply.specs.Code.{nextLine, placeAfter}
 
 -- the refusal that has a number
 named : ℕ → Refusal
@@ -67,8 +67,8 @@ pub only-judge-reply : (s : List ℕ) (n : ℕ) (a b : Answer) → meaning a ≡
 only-judge-reply s n a b p q = meaning-injective a b (p ∙ sym q)
 
 pub only-read-reply : (s : List ℕ) (ys : List Row) (a b : Answer) (left right : List Row)
-    → (meaning a ≡ outcomeOf (length ys) s) × (left ≡ tableOf s ys) → (meaning b ≡ outcomeOf (length ys) s) × (right ≡ tableOf s ys) → (a ≡ b) × (left ≡ right)
-only-read-reply s ys a b left right p q = (meaning-injective a b (p .0 ∙ sym (q .0)), p .1 ∙ sym (q .1))
+    → ReadRows s ys a left → ReadRows s ys b right → (a ≡ b) × (left ≡ right)
+only-read-reply s ys a b left right p q = (meaning-injective a b (p .says ∙ sym (q .says)), p .rows ∙ sym (q .rows))
 
 pub only-read-table : (s : List ℕ) (a b : Table) → tableMeaning a ≡ readTable s → tableMeaning b ≡ readTable s → a ≡ b
 unfolding tableMeaning
@@ -83,27 +83,24 @@ only-row-of t at a b p q = p ∙ sym q
 
 -- the answer, and all the lent numbers
 pub only-read-numbers : (s lent : List ℕ) (a b : Answer) (left right : List ℕ)
-    → (meaning a ≡ outcomeOf (roomIn lent) s) × (left ≡ numbersOf s lent)
-    → (meaning b ≡ outcomeOf (roomIn lent) s) × (right ≡ numbersOf s lent)
-    → (a ≡ b) × (left ≡ right)
-only-read-numbers s lent a b left right p q = (meaning-injective a b (p .0 ∙ sym (q .0)), p .1 ∙ sym (q .1))
+    → ReadNumbers s lent a left → ReadNumbers s lent b right → (a ≡ b) × (left ≡ right)
+only-read-numbers s lent a b left right p q =
+    (meaning-injective a b (p .says ∙ sym (q .says)), p .numbers ∙ sym (q .numbers))
 
 pub only-row-in : (lent : List ℕ) (at : ℕ) (a b : Row) → a ≡ rowIn lent at → b ≡ rowIn lent at → a ≡ b
 only-row-in lent at a b p q = p ∙ sym q
 
 -- a reader is its reply and its place
-pub only-lines-of : (s : RefT (List ℕ)) (a b : LineReader) → (a .reply ≡ s) × (a .at ≡ 0) → (b .reply ≡ s) × (b .at ≡ 0) → a ≡ b
+pub only-lines-of : (s : RefT (List ℕ)) (a b : LineReader) → Begins s a → Begins s b → a ≡ b
 only-lines-of s a b p q =
-    let r : a .reply ≡ b .reply = p .0 ∙ sym (q .0) in
-    let t : a .at ≡ b .at = p .1 ∙ sym (q .1) in
+    let r : a .reply ≡ b .reply = p .over ∙ sym (q .over) in
+    let t : a .at ≡ b .at = p .place ∙ sym (q .place) in
     λ i. record { reply = r i; at = t i }
 
 -- the answer, and the reader afterwards
 pub only-line-reader-next : (h : LineReader) (l m : NextLine) (a b : LineReader)
-    → (l ≡ nextLine (h .reply .now) (h .at)) × ((a .reply ≡ h .reply) × (a .at ≡ placeAfter (nextLine (h .reply .now) (h .at)) (h .at)))
-    → (m ≡ nextLine (h .reply .now) (h .at)) × ((b .reply ≡ h .reply) × (b .at ≡ placeAfter (nextLine (h .reply .now) (h .at)) (h .at)))
-    → (l ≡ m) × (a ≡ b)
+    → Serves h l a → Serves h m b → (l ≡ m) × (a ≡ b)
 only-line-reader-next h l m a b p q =
-    let r : a .reply ≡ b .reply = p .1 .0 ∙ sym (q .1 .0) in
-    let t : a .at ≡ b .at = p .1 .1 ∙ sym (q .1 .1) in
-    (p .0 ∙ sym (q .0), λ i. record { reply = r i; at = t i })
+    let r : a .reply ≡ b .reply = p .over ∙ sym (q .over) in
+    let t : a .at ≡ b .at = p .place ∙ sym (q .place) in
+    (p .line ∙ sym (q .line), λ i. record { reply = r i; at = t i })

@@ -21,8 +21,8 @@ use Rattle.reply.specs.declared.Seen.{Seen}
 use Rattle.reply.specs.declared.Stand.{Stand}
 use Rattle.reply.specs.declared.Change.{Change}
 use Rattle.reply.specs.Reply.{verdict}
-use Rattle.reply.specs.Code.{nextLine}
-use Rattle.reply.specs.Table.{seenOf, seenAt, placeBy, changeBy, standing, startIn, placeIn, turned}
+use Rattle.reply.specs.Lines.{nextLine}
+use Rattle.reply.specs.Code.{seenOf, seenAt, placeBy, changeBy, standing, startIn, placeIn, turned}
 use Rattle.reply.proofs.Lines.{Stands, stands}
 
 pub seen-text : (s : List ℕ) (end at a e x : ℕ) (l : Line) → NextLine.Text a e x ≡ nextLine s at → l ≡ laterBy true (take (e - a) (drop a s))

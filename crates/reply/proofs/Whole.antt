@@ -24,9 +24,10 @@ use Rattle.reply.specs.declared.NextLine.the-variants as NextLine
 use Rattle.reply.specs.declared.Row.{Row}
 use Rattle.reply.specs.declared.Stand.{Stand}
 use Rattle.reply.specs.Reply.{Open, goes, refused, closes, opened, closed, step, byMove, verdictFrom, begun, verdict, meaning, outcomeOf}
-use Rattle.reply.specs.Code.{nextLine}
+use Rattle.reply.specs.Lines.{nextLine}
+use Rattle.reply.specs.Code.{seenOf, seenAt, placeBy, oneMore, changeBy, clamp, standing, startIn, placeIn}
+use Rattle.reply.specs.Code.{turned, turnAt, rowsAt, tableFrom, standFrom}
 use Rattle.reply.specs.Rows.{scriptRow, rowsAfter, insideAfter, rowsFrom, rowsOf, over, lentAfter, tableOf}
-use Rattle.reply.specs.Table.{seenOf, seenAt, placeBy, oneMore, changeBy, clamp, standing, startIn, placeIn, turned, turnAt, rowsAt, tableFrom, standFrom}
 use Rattle.reply.proofs.Lines.{Stands, stands}
 use Rattle.reply.proofs.Rows.{sound-step, sound-begun, none-yet}
 use Rattle.reply.proofs.Pass.{Leads, on, ends, leads, used-more, later, one-turn, no-turn, rows-on, rows-ended, Going, bridge}

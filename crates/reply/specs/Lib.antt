@@ -1,5 +1,5 @@
 pub mod Reply
 pub mod Rows
-pub mod Code
-pub mod Table
+pub mod Lines
 pub mod Numbers
+pub mod Code

@@ -1,8 +1,9 @@
 -- 01, Packages and replies: the rows as numbers, four a row, for a caller who lends numbers and no rows. "Rows past
 -- the last are unchanged". Assumes nothing.
+use mathlib.Core.Path.{_≡_}
 use mathlib.Core.Bool.{cond}
 use mathlib.Core.List.{List, [], _∷_, _++_}
-use Prim.Native.Nat.{ℕ, zero, suc, _+_, _*_, _/_, _%_}
+use Prim.Native.Nat.{ℕ, _+_, _*_, _/_}
 use lib.Dec.{eqb, ltb}
 use lib.ListN.{length, getD}
 use Rattle.text.specs.Put.{put}
@@ -12,11 +13,8 @@ use Rattle.reply_line.specs.Line.{letterOf}
 use Rattle.reply.specs.declared.Answer.{Answer}
 use Rattle.reply.specs.declared.Answer.the-variants as Answer
 use Rattle.reply.specs.declared.Row.{Row}
-use Rattle.reply.specs.declared.Stand.{Stand}
-use Rattle.reply.specs.declared.Turn.{Turn}
-use Rattle.reply.specs.Reply.{verdict}
+use Rattle.reply.specs.Reply.{verdict, meaning, outcomeOf}
 use Rattle.reply.specs.Rows.{scriptRow, rowsOf}
-use Rattle.reply.specs.Table.{placeIn, turned}
 
 -- a row's numbers: the letter of its kind, its code, its parent row, its packages
 unfoldable pub fourOf : Row → List ℕ
@@ -41,7 +39,12 @@ unfoldable pub numbersOf : List ℕ → List ℕ → List ℕ
 unfolding numbersAfter verdict rowsOf
 numbersOf s lent = numbersAfter (verdict (roomIn lent) s) (rowsOf (roomIn lent) s) lent
 
--- ---- the code's own shapes: a row read back from its numbers, put among them, and the second pass turn by turn
+-- the reply s was read into the lent numbers: r is the answer, and out what they then are
+pub record ReadNumbers (s lent : List ℕ) (r : Answer) (out : List ℕ) : Type 0 where
+  pub says : meaning r ≡ outcomeOf (roomIn lent) s
+  pub numbers : out ≡ numbersOf s lent
+
+-- ---- a row read back from its numbers
 
 unfoldable pub kindOf : ℕ → Kind
 unfolding letterOf
@@ -63,24 +66,3 @@ rowAt lent at =
 unfoldable pub rowIn : List ℕ → ℕ → Row
 unfolding rowAt
 rowIn lent at = cond (ltb at (roomIn lent)) (rowAt lent at) scriptRow
-
--- a count in 32 bits
-abbrev pub low : ℕ → ℕ
-low n = n % 4294967296
-
-unfoldable pub cutRow : Row → List ℕ
-cutRow r = letterOf (r .kind) ∷ r .mark ∷ low (r .parent) ∷ low (r .packages) ∷ []
-
-unfoldable pub putRow : List ℕ → ℕ → Row → List ℕ
-unfolding cutRow
-putRow lent at r = put lent (at * 4) (cutRow r)
-
-abbrev pub turnIn : List ℕ → ℕ → Stand → List ℕ → Turn
-turnIn s n st lent = turned s st (rowIn lent (placeIn st n))
-
--- the numbers after at most so many turns
-unfoldable pub numbersFrom : ℕ → List ℕ → ℕ → Stand → List ℕ → List ℕ
-numbersFrom zero s n st lent = lent
-numbersFrom (suc f) s n st lent =
-    cond (ltb (st .pos) (st .end))
-    (numbersFrom f s n (turnIn s n st lent .next) (putRow lent (placeIn st n) (turnIn s n st lent .row))) lent

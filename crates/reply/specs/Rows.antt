@@ -1,5 +1,6 @@
 -- 01, Packages and replies: the rows. "row 0 is the script, then one row a loop in opening order, with kind, code, parent row and packages
 -- directly inside". Assumes nothing.
+use mathlib.Core.Path.{_≡_}
 use mathlib.Core.List.{List, [], _∷_, _++_}
 use Prim.Native.Nat.{ℕ, _+_}
 use lib.ListN.{length, getD, set, drop, replicate}
@@ -78,6 +79,11 @@ lentAfter (Answer.Refused why line) rows ys = ys
 unfoldable pub tableOf : List ℕ → List Row → List Row
 unfolding lentAfter verdict rowsOf
 tableOf s ys = lentAfter (verdict (length ys) s) (rowsOf (length ys) s) ys
+
+-- the reply s was read into the lent rows ys: r is the answer, and out what they then are
+pub record ReadRows (s : List ℕ) (ys : List Row) (r : Answer) (out : List Row) : Type 0 where
+  pub says : meaning r ≡ outcomeOf (length ys) s
+  pub rows : out ≡ tableOf s ys
 
 -- ---- a table of 1,024 rows by value: what it holds, and the answer
 

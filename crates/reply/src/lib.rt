@@ -4,9 +4,10 @@ ghost use mathlib.Core.Bool.{false};
 ghost use Prim.Native.Nat.{_+_, _≤_, _<_};
 ghost use lib.ListN.{length, getD};
 ghost use Rattle.reply.specs.Reply.{closes, step, verdict, meaning, outcomeOf};
-ghost use Rattle.reply.specs.Rows.{scriptRow, tableOf, tableMeaning, readTable};
-ghost use Rattle.reply.specs.Code.{nextLine, placeAfter, meant, stepped, to, endIn, openIn, closeIn};
-ghost use Rattle.reply.specs.Table.{seenAt, placeBy, oneMore, raisedRow, change, changeBy, startIn, placeIn, turned};
+ghost use Rattle.reply.specs.Rows.{scriptRow, ReadRows, tableMeaning, readTable};
+ghost use Rattle.reply.specs.Lines.{nextLine, placeAfter, Begins, Serves};
+ghost use Rattle.reply.specs.Code.{meant, stepped, to, endIn, openIn, closeIn, seenAt, placeBy, oneMore};
+ghost use Rattle.reply.specs.Code.{raisedRow, change, changeBy, startIn, placeIn, turned};
 use reply_line::Kind;
 use reply_line::Line;
 use reply_line::Refusal;
@@ -410,7 +411,7 @@ fn take_turn(reply: &[u8], st: Stand, old: Row) -> Turn
 
 // The whole: the verdict first, by a pass that writes nothing; then one store a line.
 pub fn read_reply(reply: &[u8], rows: &mut [Row]) -> Answer
-    ensures { λ r. ⌜ (meaning r ≡ outcomeOf (length (now (rows .entry))) (now (reply .entry))) × (now (rows .exit) ≡ tableOf (now (reply .entry)) (now (rows .entry))) ⌝ }
+    ensures { λ r. ⌜ ReadRows (now (reply .entry)) (now (rows .entry)) r (now (rows .exit)) ⌝ }
 {
     let n = rows.len();
     let mut st = begin(reply, n);
@@ -485,7 +486,7 @@ fn place_after(line: NextLine, at: usize) -> usize
 
 // A reader at the first line.
 pub fn lines_of<'a>(reply: &'a [u8]) -> LineReader<'a>
-    ensures { λ r. ⌜ (r .reply ≡ reply .entry) × (r .at ≡ 0) ⌝ }
+    ensures { λ r. ⌜ Begins (reply .entry) r ⌝ }
 {
     LineReader {
         reply: reply,
@@ -496,8 +497,7 @@ pub fn lines_of<'a>(reply: &'a [u8]) -> LineReader<'a>
 impl<'a> LineReader<'a> {
     // The line at the reader's place, which then is that of the one after it.
     pub fn next<'s>(&'s mut self) -> NextLine
-        ensures { λ l. ⌜ (l ≡ nextLine (now (now (self .entry) .reply)) (now (self .entry) .at))
-            × ((now (self .exit) .reply ≡ now (self .entry) .reply) × (now (self .exit) .at ≡ placeAfter (nextLine (now (now (self .entry) .reply)) (now (self .entry) .at)) (now (self .entry) .at))) ⌝ }
+        ensures { λ l. ⌜ Serves (now (self .entry)) l (now (self .exit)) ⌝ }
     {
         let at = self.at;
         let line = next_line(self.reply, at);

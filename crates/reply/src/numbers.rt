@@ -2,8 +2,8 @@
 ghost use mathlib.Core.Path.{_≡_};
 ghost use Prim.Native.Nat.{_+_, _*_, _≤_};
 ghost use lib.ListN.{length};
-ghost use Rattle.reply.specs.Reply.{meaning, outcomeOf};
-ghost use Rattle.reply.specs.Numbers.{roomIn, numbersOf, kindOf, rowAt, rowIn, low, putRow};
+ghost use Rattle.reply.specs.Numbers.{ReadNumbers, kindOf, rowAt, rowIn};
+ghost use Rattle.reply.specs.Code.{low, putRow};
 use super::Answer;
 use super::Row;
 use reply_line::Kind;
@@ -86,8 +86,7 @@ fn put_row(numbers: &mut [u32], at: usize, row: Row)
 
 // As `read_reply`, into as many rows as the numbers have room for.
 pub fn read_numbers(reply: &[u8], numbers: &mut [u32]) -> Answer
-    ensures { λ r. ⌜ (meaning r ≡ outcomeOf (roomIn (now (numbers .entry))) (now (reply .entry)))
-        × (now (numbers .exit) ≡ numbersOf (now (reply .entry)) (now (numbers .entry))) ⌝ }
+    ensures { λ r. ⌜ ReadNumbers (now (reply .entry)) (now (numbers .entry)) r (now (numbers .exit)) ⌝ }
 {
     let n = numbers.len() / NUMBERS_A_ROW;
     let mut st = super::begin(reply, n);

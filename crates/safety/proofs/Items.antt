@@ -42,7 +42,7 @@ use Rattle.state.specs.declared.Cell.the-variants.{Holds as held}
 use Rattle.state.specs.declared.Offer.{Offer}
 use Rattle.state.specs.declared.Offer.the-variants.{Nothing as nothing, Float as oneFloat, Point as onePoint, Done as done}
 use Rattle.state.specs.State.{Vars, cellAt, isWritten, cellKind, cellValue, cellType, valueOf, holds, da, ba, eb, code0028, code0010, Run, leaves, Answer, running, waiting, finished, stopped, fault, refuse, Step, goto, keep, unskip, said, stopsBy, reading, cellOk}
-use Rattle.machine.specs.Machine.{unwind, outside, next, kept, runAct, runPack, Chosen, chosen, enter, leave, runPoint, runHead, runBranch, runClose, runBreak, run}
+use Rattle.machine.specs.Machine.{unwind, outside, next, kept, runAct, runPack, Chosen, otherwise, chosen, enter, leave, runPoint, runHead, runBranch, runClose, runBreak, run}
 use Rattle.safety.specs.Safety.{isCode}
 use Rattle.safety.proofs.Laws.{no, or-l, or-r, and-l, and-r, not-f, not-t, both-r, not-nothing}
 use Rattle.safety.proofs.Walk.{textKinds, Accepted, more, closes-fits, branch-fits, clean, item-ok, gives-ok, like-below, float-below}
@@ -51,7 +51,7 @@ use Rattle.safety.proofs.Static.{static}
 use Rattle.safety.proofs.Mates.{Under, here, there, left-sure, left-loop, Picks, goes, passes, find-close, past-close, branchedBox, close-head}
 use Rattle.safety.proofs.Names.{Covers, AllCover, VarsOk, set-vars, written-up, all-cover-up, cover-set, cell-kind, kind-now}
 use Rattle.safety.proofs.Stands.{positions, Here, Good, shape-of, land, not-again, outside-is, knows}
-use Rattle.safety.proofs.NoFault.{innermost-loop, tried-mates, mates-good}
+use Rattle.safety.proofs.NoFault.{innermost-loop, mates-good}
 use Rattle.safety.proofs.Results.{checked-got, result-got}
 
 cover-under : {b : Box} {bs l : List Box} (vs : Vars) → Under b bs l → AllCover l vs → Covers (b .before) vs × AllCover bs vs
@@ -66,7 +66,7 @@ module _ {names size : ℕ} {items : List Item} (ok : Accepted names size items)
   Fine finished m = Good ok m
   Fine (stopped c) m = (isCode c ≡ true) × Good ok m
   Fine (fault n) m = ⊥
-  Fine (refuse n) m = ⊥
+  Fine (refuse n k) m = ⊥
 
   abbrev pub FineStep : Step → Type 0
   FineStep s = Fine (s .answer) (s .next)
@@ -153,7 +153,7 @@ module _ {names size : ℕ} {items : List Item} (ok : Accepted names size items)
     if-fine : (c : Condition) {xs : List Item} (o : Offer) → Here ok m su l p tg k (opens (if' c) ∷ xs) → FineStep (runHead items m (if' c) o)
     if-fine c o h = go (holds (m .vars) c)
       where
-        go : (b : Bool) → FineStep (cond b (said [] (goto m (suc (m .at)) (m .at ∷ m .boxes))) (chosen m (tried-mates ok h)))
+        go : (b : Bool) → FineStep (cond b (said [] (goto m (suc (m .at)) (m .at ∷ m .boxes))) (chosen m (otherwise items m)))
         go true = entered-fine (if' c) h (m .vars) (h .vars) (h .cover) (h .cover) (h .covers) (m .boxes) (not-again ok h refl)
         go false = picks-fine h (mates-good ok h)
 

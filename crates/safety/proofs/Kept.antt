@@ -9,13 +9,13 @@ use Rattle.state.specs.declared.Control.{Control}
 use Rattle.state.specs.declared.Offer.{Offer}
 use Rattle.state.specs.State.{Status, live, finishedRun, stoppedRun, faultRun, Run, Answer, running, waiting, finished, stopped, fault, refuse, Step, fresh, Meets, ready, short, amiss}
 use Rattle.machine.specs.Machine.{served, told, moved, again}
-use Rattle.safety.specs.Safety.{wrongSort, allowed, unbroken, Promise}
+use Rattle.safety.specs.Safety.{isAmiss, wrongSort, allowed, unbroken, Promise}
 use Rattle.safety.proofs.Laws.{no′, not-nothing}
 use Rattle.safety.proofs.Walk.{textKinds, Accepted, outset}
 use Rattle.safety.proofs.Names.{fresh-vars}
 use Rattle.safety.proofs.Stands.{Life, Good, land}
 use Rattle.safety.proofs.Items.{Fine, FineStep}
-use Rattle.safety.proofs.Step.{isAmiss, isShort, Comes, moved-comes, told-here}
+use Rattle.safety.proofs.Step.{isShort, Comes, moved-comes, told-here}
 
 abbrev refuses : Answer → Bool
 refuses running = false
@@ -23,7 +23,7 @@ refuses waiting = false
 refuses finished = false
 refuses (stopped n) = false
 refuses (fault n) = false
-refuses (refuse n) = true
+refuses (refuse n k) = true
 
 abbrev lives : Status → Bool
 lives live = true
@@ -59,7 +59,7 @@ module _ {names size : ℕ} {items : List Item} (ok : Accepted names size items)
         go finished e g = right-kept w (rw e) (rw e) g
         go (stopped d) e g = right-kept w (rw e (g .0)) (rw e) (g .1)
         go (fault n) e g = absurd g
-        go (refuse n) e g = absurd g
+        go (refuse n k) e g = absurd g
 
     comes-kept : {s : Step} → m .status ≡ live → Good ok m → Comes ok m (wrongSort items m c o) s → Kept s
     comes-kept a g f = rw (f .is) (go (f .met) (f .amiss-is) (f .waits))

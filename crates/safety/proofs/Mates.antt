@@ -19,7 +19,7 @@ use Rattle.table.specs.declared.Sort.{Sort}
 use Rattle.table.specs.declared.Sort.the-variants.{If as ifBox, Loop as loopBox, Sweep as sweepBox}
 use Rattle.table.specs.declared.Want.{Want}
 use Rattle.table.specs.Item.{sortOf, isElse, isLoop, fits}
-use Rattle.table.specs.Uses.{conditionUses, Kinds, kindAt, wrong, Names, has, missing, lowest as first}
+use Rattle.table.specs.Uses.{conditionUses, Kinds, kindAt, wrong, Names, has, missing, lowest}
 use Rattle.mates.specs.declared.Open.{Open}
 use Rattle.mates.specs.Mates.{belongs, closeFrom, closeOf, past}
 use Rattle.rules.specs.Check.{everything, both, isEmpty, afterBox}
@@ -182,7 +182,7 @@ module _ {names size : ℕ} {items : List Item} (ok : Accepted names size items)
 
   -- reads that the checker lets through, with su surely written, have no fault
   abbrev pub Readable : Names → Vars → Type 0
-  Readable su vs = (ws : List Want) → missing (has su) ws ≡ false → wrong (kindAt (textKinds items)) ws ≡ false → first (readFaults vs ws) ≡ 0
+  Readable su vs = (ws : List Want) → missing (has su) ws ≡ false → wrong (kindAt (textKinds items)) ws ≡ false → lowest (readFaults vs ws) ≡ 0
 
   -- a mark belongs to no box below the innermost
   other-box : (x : Item) {i : ℕ} {su : Names} {c : Box} {l : List Box} {p tg : Bool} {k : Kinds} {b : Box} {bs : List Box} {xs : List Item}

@@ -59,7 +59,7 @@ abbrev whole-run : List Entry
 whole-run =
     settle
     -- a float where a point or done is wanted: refused; nothing: a wait; a point enters
-    ++ (noControl, oneFloat (volts 1), refuse 31, [])
+    ++ (noControl, oneFloat (volts 1), refuse 31 0, [])
     ∷ (noControl, nothing, waiting, [])
     ∷ (noControl, at 1 2, running, enters aSweep ∷ [])
     ∷ packed 1 2

@@ -2,24 +2,24 @@
 use Prim.Native.Nat.{ℕ, suc}
 use mathlib.Core.Path.{_≡_, refl, _∙_}
 use mathlib.Core.Logic.{inl, inr}
-use mathlib.Core.Bool.{Bool, true, false, not, _&&_, _||_, cond}
+use mathlib.Core.Bool.{Bool, true, false, _&&_, cond}
 use mathlib.Core.List.{List, [], _∷_}
 use lib.Dec.{leb}
-use lib.ListN.{length, drop}
+use lib.ListN.{length}
 use borrow.Author.Tests.{eq-eqb}
 use Rattle.table.specs.declared.Condition.{Condition}
 use Rattle.table.specs.declared.Head.the-variants.{If as if', Loop as loop, Sweep as sweep}
 use Rattle.table.specs.declared.Item.{Item}
 use Rattle.table.specs.declared.Item.the-variants.{Act as act, Pack as pack, Open as opens, Branch as branch, Close as closes, Break as breakloop, Tag as tag}
 use Rattle.table.specs.declared.Want.{Want}
-use Rattle.table.specs.Item.{isOpen, isBranch, isClose, isBreak, isLoop, opensA, fits}
-use Rattle.table.specs.Uses.{actUses, uses, Kinds, wrong, Names, missing, lowest as first}
+use Rattle.table.specs.Item.{isOpen, isLoop, opensA, fits}
+use Rattle.table.specs.Uses.{actUses, uses, Kinds, wrong, Names, missing, lowest}
 use Rattle.mates.specs.declared.Open.{Open}
-use Rattle.mates.specs.Mates.{boxesAt, closeOf, itemAt}
+use Rattle.mates.specs.Mates.{itemAt}
 use Rattle.rules.specs.Check.{anyBox}
 use Rattle.rules.proofs.Placed.{Box, Placed, plains}
 use Rattle.state.specs.State.{Vars, written, kindNow, holds, Run}
-use Rattle.machine.specs.Machine.{isEmpty as noneOpen, unwind, inside, isNone, strays, reads, faults, Chosen, choose, badOf, tries}
+use Rattle.machine.specs.Machine.{unwind, strays, reads, astray, tooDeep, faults, Chosen, otherwise, badOf, tries}
 use Rattle.safety.proofs.Laws.{no, no′, not-f, drop-getD}
 use Rattle.safety.proofs.Walk.{textKinds, Accepted, more, Clean, closes-fits, branch-fits, clean}
 use Rattle.safety.proofs.Boxes.{erase, Headed, Heads}
@@ -84,11 +84,8 @@ module _ {names size : ℕ} {items : List Item} (ok : Accepted names size items)
   strays-not : (x : Item) {ps : List ℕ} (b : Box) (bs : List Box) → ps ≡ positions (b ∷ bs) → fits x (b .sort) ≡ true → strays x ps (erase (b ∷ bs)) ≡ false
   strays-not x b bs q f = rw (q, f, eq-eqb (b .at) (b .at) refl)
 
-  abbrev astray : Run → Item → Bool
-  astray m x = isOpen x && isNone (closeOf items (m .at)) || (isBranch x || isClose x) && strays x (m .boxes) (boxesAt items (m .at)) || isBreak x && noneOpen (unwind items (m .boxes))
-
   module _ {m : Run} {su : Names} {p tg : Bool} {k : Kinds} {xs : List Item} where
-    not-astray : (x : Item) (l : List Box) → Here ok m su l p tg k (x ∷ xs) → astray m x ≡ false
+    not-astray : (x : Item) (l : List Box) → Here ok m su l p tg k (x ∷ xs) → astray items m x ≡ false
     not-astray (act a) l h = refl
     not-astray (pack a) l h = refl
     not-astray (opens a) l h = rw ((close-head ok (h .reach)) .is)
@@ -104,17 +101,14 @@ module _ {names size : ℕ} {items : List Item} (ok : Accepted names size items)
   -- ---- 63, and all of them
 
   module _ {m : Run} {su : Names} {l : List Box} {p tg : Bool} {k : Kinds} {x : Item} {xs : List Item} (h : Here ok m su l p tg k (x ∷ xs)) where
-    abbrev full : Bool
-    full = isOpen x && leb 8 (length (m .boxes)) && not (opensA isLoop x && inside (m .at) (m .boxes))
-
-    not-full : full ≡ false
+    not-full : tooDeep m x ≡ false
     not-full = go (h .boxes)
       where
-        go : Opened (m .at) (x ∷ xs) (m .boxes) l → full ≡ false
+        go : Opened (m .at) (x ∷ xs) (m .boxes) l → tooDeep m x ≡ false
         go (inl q) = rw (q, length-positions l, (clean ok (h .reach)) .eighth)
         go (inr q) = rw (q .0, q .1, eq-eqb (m .at) (m .at) refl) (and-false (isOpen x && leb 8 (suc (length (positions l)))))
 
-    pub no-fault : first (faults items m x) ≡ 0
+    pub no-fault : lowest (faults items m x) ≡ 0
     no-fault =
         let c = clean ok (h .reach) in
         let r = reads-fine x c (knows ok h) in
@@ -123,10 +117,7 @@ module _ {names size : ℕ} {items : List Item} (ok : Accepted names size items)
   -- ---- the mates that a false condition tries
 
   module _ {m : Run} {su : Names} {l : List Box} {p tg : Bool} {k : Kinds} {c : Condition} {xs : List Item} (h : Here ok m su l p tg k (opens (if' c) ∷ xs)) where
-    abbrev pub tried-mates : Chosen
-    tried-mates = choose (m .vars) (m .at) (m .at) (boxesAt items (m .at)) (drop (m .at) items)
-
-    pub mates-good : Picks items (m .at) su l tried-mates
+    pub mates-good : Picks items (m .at) su l (otherwise items m)
     mates-good =
         let s = static ok (h .reach) in
         rw (s .scanned, s .text, no-mark (opens (if' c)) (λ s. refl) (m .at) (erase l)) (choose-good ok (m .vars) xs (more (h .reach)) here refl refl (readable (knows ok h)))
@@ -140,7 +131,7 @@ module _ {names size : ℕ} {items : List Item} (ok : Accepted names size items)
   no-try (pack q) h = refl
   no-try {m} (opens (if' c)) h = go (holds (m .vars) c)
     where
-      go : (b : Bool) → cond b 0 (badOf (tried-mates h)) ≡ 0
+      go : (b : Bool) → cond b 0 (badOf (otherwise items m)) ≡ 0
       go true = refl
       go false = picks-good (mates-good h)
   no-try (opens (loop c)) h = refl

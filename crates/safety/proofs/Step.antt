@@ -6,24 +6,22 @@ use mathlib.Core.Bool.{Bool, true, false, not, _&&_, _||_, cond}
 use mathlib.Core.List.{List, [], _∷_}
 use mathlib.Core.Option.{Option, none, some}
 use native.Mathlib.Omega.{arith}
-use lib.Dec.{ltb}
 use lib.ListN.{length, drop}
 use borrow.Author.Tests.{le-leb}
-use Rattle.table.specs.declared.Act.the-variants.{Var as var, Store as store, Copy as copy, Calc as calc, Meas as meas, TimerGet as timerGet, SendString as sendString, Wait as wait, SetE as setE, SetMode as setMode, TimerStart as timerStart, CellOn as cellOn, CellOff as cellOff, Abort as abort}
-use Rattle.table.specs.declared.Head.the-variants.{If as if', Loop as loop, Sweep as sweep}
 use Rattle.table.specs.declared.Item.{Item}
 use Rattle.table.specs.declared.Item.the-variants.{Act as act, Pack as pack, Open as opens, Branch as branch, Close as closes, Break as breakloop, Tag as tag}
 use Rattle.table.specs.Item.{isSweep}
-use Rattle.table.specs.Uses.{gives, Kinds, Names, lowest as first}
+use Rattle.table.specs.Uses.{Kinds, Names, lowest}
 use Rattle.rules.specs.Check.{isEmpty}
 use Rattle.rules.proofs.Placed.{Box, Placed, plains}
 use Rattle.state.specs.declared.Control.{Control}
 use Rattle.state.specs.declared.Control.the-variants.{None as noControl, Z, Y}
 use Rattle.state.specs.declared.Offer.{Offer}
 use Rattle.state.specs.declared.Offer.the-variants.{Nothing as nothing, Float as oneFloat, Point as onePoint, Done as done}
-use Rattle.state.specs.State.{Run, Out, Step, said, Meets, ready, short, amiss, asksNothing, asksFloat, asksPoint, meets, cleared}
-use Rattle.machine.specs.Machine.{isEmpty as noneOpen, anyOpen, leaveOuts, isNone, next, run, served, finish, atItem, told, tagFrom, aborted, moved, runOk}
-use Rattle.safety.specs.Safety.{wantsNothing, wantsFloat, wantsPoint, wantedBy, wantedFrom, abortDue, wantedAt, mismatch}
+use Rattle.state.specs.State.{Run, Out, Step, said, Meets, ready, short, amiss, wantsNothing, wantedBy, meets, cleared}
+use Rattle.machine.specs.Machine.{isEmpty as noneOpen, anyOpen, leaveOuts, isNone, next, run, served, finish, atItem, told, tagFrom, ahead, abortDue, aborted, moved, runOk}
+use Rattle.safety.specs.Safety.{wantedFrom, wantedAt, isAmiss}
+use Rattle.machine.proofs.Stepping.{ahead-is}
 use Rattle.safety.proofs.Laws.{no, no′, or-r, and-r, not-t, not-nothing}
 use Rattle.safety.proofs.Walk.{Accepted, state, Reach, outset, more, clean, ends}
 use Rattle.safety.proofs.Static.{static}
@@ -32,65 +30,17 @@ use Rattle.safety.proofs.Stands.{Opened, Here, Good, shape-of, good, la
 use Rattle.safety.proofs.NoFault.{no-fault, no-try}
 use Rattle.safety.proofs.Items.{FineStep, run-fine}
 
--- an offer that is not what is wanted
-abbrev pub isAmiss : Meets → Bool
-isAmiss ready = false
-isAmiss short = false
-isAmiss amiss = true
-
 abbrev pub isShort : Meets → Bool
 isShort ready = false
 isShort short = true
 isShort amiss = false
 
 -- where nothing is wanted there is no wait
-quiet-short : (o : Offer) → isShort (asksNothing o) ≡ false
+quiet-short : (o : Offer) → isShort (meets wantsNothing o) ≡ false
 quiet-short nothing = refl
 quiet-short (oneFloat x) = refl
 quiet-short (onePoint p) = refl
 quiet-short done = refl
-
-quiet-amiss : (o : Offer) → isAmiss (asksNothing o) ≡ mismatch wantsNothing o
-quiet-amiss nothing = refl
-quiet-amiss (oneFloat x) = refl
-quiet-amiss (onePoint p) = refl
-quiet-amiss done = refl
-
-one-amiss : (o : Offer) → isAmiss (asksFloat o) ≡ mismatch wantsFloat o
-one-amiss nothing = refl
-one-amiss (oneFloat x) = refl
-one-amiss (onePoint p) = refl
-one-amiss done = refl
-
-point-amiss : (o : Offer) → isAmiss (asksPoint o) ≡ mismatch wantsPoint o
-point-amiss nothing = refl
-point-amiss (oneFloat x) = refl
-point-amiss (onePoint p) = refl
-point-amiss done = refl
-
-meets-amiss : (x : Item) (o : Offer) → isAmiss (meets (gives x) o) ≡ mismatch (wantedBy x) o
-meets-amiss (act (var v)) o = quiet-amiss o
-meets-amiss (act (store v l c)) o = quiet-amiss o
-meets-amiss (act (copy a b)) o = quiet-amiss o
-meets-amiss (act (calc f v x)) o = quiet-amiss o
-meets-amiss (act (meas f v c)) o = one-amiss o
-meets-amiss (act (timerGet v)) o = one-amiss o
-meets-amiss (act (sendString s)) o = quiet-amiss o
-meets-amiss (act (wait f)) o = quiet-amiss o
-meets-amiss (act (setE f)) o = quiet-amiss o
-meets-amiss (act (setMode n)) o = quiet-amiss o
-meets-amiss (act timerStart) o = quiet-amiss o
-meets-amiss (act cellOn) o = quiet-amiss o
-meets-amiss (act cellOff) o = quiet-amiss o
-meets-amiss (act abort) o = quiet-amiss o
-meets-amiss (pack p) o = quiet-amiss o
-meets-amiss (opens (if' c)) o = quiet-amiss o
-meets-amiss (opens (loop c)) o = quiet-amiss o
-meets-amiss (opens (sweep w)) o = point-amiss o
-meets-amiss (branch b) o = quiet-amiss o
-meets-amiss (closes e) o = quiet-amiss o
-meets-amiss breakloop o = quiet-amiss o
-meets-amiss tag o = quiet-amiss o
 
 module _ {names size : ℕ} {items : List Item} (ok : Accepted names size items) where
   -- a step of a run m that lives: made where the offer is what is wanted; m₁ is the run with the control, which a wait keeps
@@ -103,10 +53,10 @@ module _ {names size : ℕ} {items : List Item} (ok : Accepted names size items)
     pub waits : isShort met ≡ true → Good ok m₁
     pub fine : FineStep ok made
 
-  quiet-comes : (m m₁ : Run) (o : Offer) (s : Step) → FineStep ok s → Comes m (mismatch wantsNothing o) (served m m₁ (asksNothing o) s)
-  quiet-comes m m₁ o s f = record { met = asksNothing o; m₁ = m₁; made = s; is = refl; amiss-is = quiet-amiss o; waits = λ e. no′ (sym (quiet-short o) ∙ e); fine = f }
+  quiet-comes : (m m₁ : Run) (o : Offer) (s : Step) → FineStep ok s → Comes m (isAmiss (meets wantsNothing o)) (served m m₁ (meets wantsNothing o) s)
+  quiet-comes m m₁ o s f = record { met = meets wantsNothing o; m₁ = m₁; made = s; is = refl; amiss-is = refl; waits = λ e. no′ (sym (quiet-short o) ∙ e); fine = f }
 
-  finish-comes : (m₀ m : Run) (o : Offer) (os : List Out) → runOk items m ≡ true → Comes m₀ (mismatch wantsNothing o) (finish m₀ m o os)
+  finish-comes : (m₀ m : Run) (o : Offer) (os : List Out) → runOk items m ≡ true → Comes m₀ (isAmiss (meets wantsNothing o)) (finish m₀ m o os)
   finish-comes m₀ m o os g = quiet-comes m₀ m o _ (record { shape = g; life = tt })
 
   -- ---- an abort: to the tag, or to the end
@@ -145,17 +95,17 @@ module _ {names size : ℕ} {items : List Item} (ok : Accepted names size items)
         go (b ∷ bs) (inl q) e = no′ e
         go l (inr q) e = no′ (q .1)
 
-    item-comes : (xs : List Item) → Here ok m su l p tg k xs → Comes m₀ (mismatch (wantedFrom xs) o) (atItem items m₀ m o xs)
+    item-comes : (xs : List Item) → Here ok m su l p tg k xs → Comes m₀ (isAmiss (meets (wantedFrom xs) o)) (atItem items m₀ m o xs)
     item-comes [] h =
-        let z : first ((62, not (noneOpen (m .boxes))) ∷ (64, m .packed) ∷ []) ≡ 0 = rw (end-boxes h, h .packed, (ends ok (h .reach)) .1) in
+        let z : lowest ((62, not (noneOpen (m .boxes))) ∷ (64, m .packed) ∷ []) ≡ 0 = rw (end-boxes h, h .packed, (ends ok (h .reach)) .1) in
         rw z (finish-comes m₀ m o [] (shape-of ok h))
     item-comes (x ∷ xs) h =
         rw (no-fault ok h, no-try ok x h) (record {
-          met = meets (gives x) o;
+          met = meets (wantedBy x) o;
           m₁ = m;
           made = run items m x o;
           is = refl;
-          amiss-is = meets-amiss x o;
+          amiss-is = refl;
           waits = λ e. good ok h;
           fine = run-fine ok x o h;
         })
@@ -169,12 +119,12 @@ module _ {names size : ℕ} {items : List Item} (ok : Accepted names size items)
       to-end = finish m₀ (cleared m (m .at)) o (leaveOuts items (m .boxes))
 
       abbrev to-tag : ℕ → Step
-      to-tag i = served m₀ (cleared m i) (asksNothing o) (said (leaveOuts items (m .boxes)) (next (cleared m i)))
+      to-tag i = served m₀ (cleared m i) (meets wantsNothing o) (said (leaveOuts items (m .boxes)) (next (cleared m i)))
 
-      ending : Comes m₀ (mismatch wantsNothing o) to-end
+      ending : Comes m₀ (isAmiss (meets wantsNothing o)) to-end
       ending = finish-comes m₀ (cleared m (m .at)) o (leaveOuts items (m .boxes)) (cleared-ok (m .at) (omega (arith, (static ok (h .reach)) .span)))
 
-      tag-comes : {i : ℕ} → m .packed ≡ false → Tagged i → Comes m₀ (mismatch wantsNothing o) (to-tag i)
+      tag-comes : {i : ℕ} → m .packed ≡ false → Tagged i → Comes m₀ (isAmiss (meets wantsNothing o)) (to-tag i)
       tag-comes {i} q g = quiet-comes m₀ (cleared m i) o _ (land ok (more at-tag) (inl refl) q (λ n e. not-nothing n e) tt (h .vars) (h .living))
         where
           boxes : g .s .boxes ≡ []
@@ -183,20 +133,16 @@ module _ {names size : ℕ} {items : List Item} (ok : Accepted names size items)
           at-tag : Reach items i (state (g .s .sure) [] false (g .s .tagged)) (g .k) (tag ∷ g .ys)
           at-tag = rw (boxes, (clean ok (g .reach)) .packed) at (g .reach)
 
-      abort-comes : (f : Option ℕ) → tagFrom 0 items ≡ f → m .packed ≡ false → Comes m₀ (mismatch wantsNothing o) (aborted items m₀ m o f)
+      abort-comes : (f : Option ℕ) → ahead (m .at) (tagFrom 0 items) ≡ f → m .packed ≡ false → Comes m₀ (isAmiss (meets wantsNothing o)) (aborted items m₀ m o f)
       abort-comes none e q = ending
-      abort-comes (some i) e q = go (ltb i (m .at))
-        where
-          go : (b : Bool) → Comes m₀ (mismatch wantsNothing o) (cond b to-end (to-tag i))
-          go true = ending
-          go false = tag-comes q (find-tag items 0 i outset e)
+      abort-comes (some i) e q = tag-comes q (find-tag items 0 i outset (ahead-is (m .at) (tagFrom 0 items) i e))
 
-      pub moved-comes : Comes m₀ (mismatch (wantedAt items m) o) (moved items m₀ m o)
+      pub moved-comes : Comes m₀ (isAmiss (meets (wantedAt items m) o)) (moved items m₀ m o)
       moved-comes = go (abortDue items m) refl
         where
           go : (b : Bool) → abortDue items m ≡ b
-              → Comes m₀ (mismatch (cond b wantsNothing (wantedFrom (drop (m .at) items))) o) (cond b (aborted items m₀ m o (tagFrom 0 items)) (atItem items m₀ m o (drop (m .at) items)))
-          go true e = abort-comes (tagFrom 0 items) refl (not-t (m .packed) (and-r (m .pending && not (anyOpen isSweep items (m .boxes))) (not (m .packed)) e))
+              → Comes m₀ (isAmiss (meets (cond b wantsNothing (wantedFrom (drop (m .at) items))) o)) (cond b (aborted items m₀ m o (ahead (m .at) (tagFrom 0 items))) (atItem items m₀ m o (drop (m .at) items)))
+          go true e = abort-comes (ahead (m .at) (tagFrom 0 items)) refl (not-t (m .packed) (and-r (m .pending && not (anyOpen isSweep items (m .boxes))) (not (m .packed)) e))
           go false e = rw ((static ok (h .reach)) .text) (item-comes xs h)
 
   -- the control moves nothing

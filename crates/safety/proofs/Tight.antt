@@ -1,7 +1,7 @@
 -- No second answer fits: two answers of `run` that both keep its contract are equal. Assumes nothing.
 use Prim.Native.Nat.{ℕ}
 use mathlib.Core.Path.{_≡_, refl, sym, ap, _∙_}
-use mathlib.Core.Bool.{true, cond}
+use mathlib.Core.Bool.{cond}
 use mathlib.Core.List.{List}
 use lib.Dec.{eqb, ltb}
 use Rattle.argument.specs.declared.Refusal.{Refusal}
@@ -17,8 +17,7 @@ use Rattle.machine.proofs.Tight.{SizedRun, same-ran}
 use Rattle.safety.specs.declared.Judged.{Judged}
 use Rattle.safety.specs.declared.Judged.the-variants as judged
 use Rattle.safety.specs.declared.Checked.{Checked}
-use Rattle.safety.specs.Safety.{allAllowed}
-use Rattle.safety.specs.Outcome.{Outcome, outcome, Fixed, numberOf, lineOf, meaning}
+use Rattle.safety.specs.Outcome.{Outcome, ExactOutcome, numberOf, lineOf, meaning}
 
 -- ---- from the numbers back to the answer
 
@@ -80,14 +79,12 @@ checked-from x = refl
 
 -- an array of the code has its length (`SizedRun`)
 pub only-run : (text : List ℕ) (steps : Steps) (x y : Checked) → SizedRun (x .ran) → SizedRun (y .ran)
-    → (meaning x ≡ outcome text (stepsOf steps)) × (allAllowed (courseOf (x .ran) .answers) ≡ true) × Fixed (x .ran)
-    → (meaning y ≡ outcome text (stepsOf steps)) × (allAllowed (courseOf (y .ran) .answers) ≡ true) × Fixed (y .ran)
-    → x ≡ y
+    → ExactOutcome text (stepsOf steps) x → ExactOutcome text (stepsOf steps) y → x ≡ y
 only-run text steps x y l k p q =
-    let same : meaning x ≡ meaning y = p .0 ∙ sym (q .0) in
+    let same : meaning x ≡ meaning y = p .says ∙ sym (q .says) in
     let j : x .judged ≡ y .judged = sym (judged-back (x .judged)) ∙ ap (λ (o : Outcome). judgedOf (o .number) (o .line)) same ∙ judged-back (y .judged) in
     let c : courseOf (x .ran) ≡ courseOf (y .ran) = ap (λ (o : Outcome). o .course) same in
-    let m : x .ran .state ≡ y .ran .state = same-state (x .ran .state) (y .ran .state) (l .boxes) (k .boxes) (ap (λ (z : Course). z .last) c) (p .2 .neat) (q .2 .neat) in
-    let r : x .ran ≡ y .ran = same-ran (x .ran) (y .ran) l k c (p .2 .blank) (q .2 .blank) m in
+    let m : x .ran .state ≡ y .ran .state = same-state (x .ran .state) (y .ran .state) (l .boxes) (k .boxes) (ap (λ (z : Course). z .last) c) (p .fixed .neat) (q .fixed .neat) in
+    let r : x .ran ≡ y .ran = same-ran (x .ran) (y .ran) l k c (p .fixed .blank) (q .fixed .blank) m in
     let w : checkedFrom (x .judged) (x .ran) ≡ checkedFrom (y .judged) (y .ran) = cc in
     sym (checked-from x) ∙ w ∙ checked-from y

@@ -68,6 +68,12 @@ pub record Fixed (r : Ran) : Type 0 where
   pub neat : Neat (r .state)
   pub blank : BlankRun r
 
+-- the answer r to a text and its steps: what it says; demand 3 of each step; and nothing else is left in it
+pub record ExactOutcome (text : List ℕ) (ps : List (Control × Offer)) (r : Checked) : Type 0 where
+  pub says : meaning r ≡ outcome text ps
+  pub allowed : allAllowed (courseOf (r .ran) .answers) ≡ true
+  pub fixed : Fixed (r .ran)
+
 -- ---- more than 64 steps
 
 -- `run` has answered r to the steps ps of an accepted text, and `machine::run` is called as often as one likes, first

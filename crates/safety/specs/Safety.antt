@@ -3,88 +3,41 @@
 -- never reaches one of the faults 60 to 64.
 use Prim.Native.Nat.{ℕ}
 use mathlib.Core.Path.{_≡_}
-use mathlib.Core.Bool.{Bool, true, false, not, _&&_, _||_, cond}
+use mathlib.Core.Bool.{Bool, true, false, _&&_, _||_, cond}
 use mathlib.Core.List.{List, [], _∷_, _++_}
 use lib.Dec.{eqb}
 use lib.ListN.{length, replicate, drop}
-use Rattle.table.specs.declared.Act.the-variants.{Var as var, Store as store, Copy as copy, Calc as calc, Meas as meas, TimerGet as timerGet, SendString as sendString, Wait as wait, SetE as setE, SetMode as setMode, TimerStart as timerStart, CellOn as cellOn, CellOff as cellOff, Abort as abort}
-use Rattle.table.specs.declared.Head.the-variants.{If as if', Loop as loop, Sweep as sweep}
 use Rattle.table.specs.declared.Item.{Item}
-use Rattle.table.specs.declared.Item.the-variants.{Act as act, Pack as pack, Open as opens, Branch as branch, Close as closes, Break as breakloop, Tag as tag}
 use Rattle.table.specs.declared.Script.{Script}
-use Rattle.table.specs.Item.{isSweep}
 use Rattle.table.specs.Shape.{itemsOf}
 use Rattle.script.specs.Load.{loaded}
 use Rattle.rules.specs.Check.{accepted, refused, verdict}
 use Rattle.state.specs.declared.Control.{Control}
 use Rattle.state.specs.declared.Offer.{Offer}
-use Rattle.state.specs.declared.Offer.the-variants.{Nothing as nothing, Float as oneFloat, Point as onePoint, Done as done}
-use Rattle.state.specs.State.{Status, live, finishedRun, stoppedRun, faultRun, code0028, code0010, Run, Answer, running, waiting, finished, stopped, fault, refuse, Step, fresh}
-use Rattle.machine.specs.Machine.{anyOpen, told, step}
+use Rattle.state.specs.State.{Status, live, finishedRun, stoppedRun, faultRun, code0028, code0010, Run, Answer, running, waiting, finished, stopped, fault, refuse, Step, fresh, Wanted, wantsNothing, wantedBy, Meets, ready, short, amiss, meets}
+use Rattle.machine.specs.Machine.{abortDue, told, step}
 use Rattle.machine.specs.Course.{runFrom}
 
 -- ---- an offer of the wrong sort
-
--- what the run wants where it stands: nothing, one float, or a point or done
-pub data Wanted : Type 0 where
-  wantsNothing wantsFloat wantsPoint : Wanted
-
--- meas_loop_lsv wants a point or done, meas and timer_get one float, others nothing
-abbrev pub wantedBy : Item → Wanted
-wantedBy (act (var v)) = wantsNothing
-wantedBy (act (store v l t)) = wantsNothing
-wantedBy (act (copy a b)) = wantsNothing
-wantedBy (act (calc o v x)) = wantsNothing
-wantedBy (act (meas f v t)) = wantsFloat
-wantedBy (act (timerGet v)) = wantsFloat
-wantedBy (act (sendString s)) = wantsNothing
-wantedBy (act (wait f)) = wantsNothing
-wantedBy (act (setE f)) = wantsNothing
-wantedBy (act (setMode n)) = wantsNothing
-wantedBy (act timerStart) = wantsNothing
-wantedBy (act cellOn) = wantsNothing
-wantedBy (act cellOff) = wantsNothing
-wantedBy (act abort) = wantsNothing
-wantedBy (pack p) = wantsNothing
-wantedBy (opens (if' c)) = wantsNothing
-wantedBy (opens (loop c)) = wantsNothing
-wantedBy (opens (sweep w)) = wantsPoint
-wantedBy (branch b) = wantsNothing
-wantedBy (closes e) = wantsNothing
-wantedBy breakloop = wantsNothing
-wantedBy tag = wantsNothing
 
 -- a step at the end of the items wants nothing
 abbrev pub wantedFrom : List Item → Wanted
 wantedFrom [] = wantsNothing
 wantedFrom (x ∷ xs) = wantedBy x
 
--- an abort is due: pending, outside every measuring loop, and no package is open
-abbrev pub abortDue : List Item → Run → Bool
-abortDue xs m = m .pending && not (anyOpen isSweep xs (m .boxes)) && not (m .packed)
-
 -- a step in which an abort takes effect wants nothing
 abbrev pub wantedAt : List Item → Run → Wanted
 wantedAt xs m = cond (abortDue xs m) wantsNothing (wantedFrom (drop (m .at) xs))
 
--- something is offered, and it is not what is wanted
-abbrev pub mismatch : Wanted → Offer → Bool
-mismatch wantsNothing nothing = false
-mismatch wantsNothing (oneFloat x) = true
-mismatch wantsNothing (onePoint p) = true
-mismatch wantsNothing done = true
-mismatch wantsFloat nothing = false
-mismatch wantsFloat (oneFloat x) = false
-mismatch wantsFloat (onePoint p) = true
-mismatch wantsFloat done = true
-mismatch wantsPoint nothing = false
-mismatch wantsPoint (oneFloat x) = true
-mismatch wantsPoint (onePoint p) = false
-mismatch wantsPoint done = false
+-- of the wrong sort: something is offered, and it is not what is wanted; nothing where something is wanted waits
+abbrev pub isAmiss : Meets → Bool
+isAmiss ready = false
+isAmiss short = false
+isAmiss amiss = true
 
 -- the run is first told the control: a Z may make an abort due
 abbrev pub wrongSort : List Item → Run → Control → Offer → Bool
-wrongSort xs m c o = mismatch (wantedAt xs (told xs m c)) o
+wrongSort xs m c o = isAmiss (meets (wantedAt xs (told xs m c)) o)
 
 -- ---- the answers and states of an accepted script
 
@@ -92,14 +45,14 @@ wrongSort xs m c o = mismatch (wantedAt xs (told xs m c)) o
 abbrev pub isCode : ℕ → Bool
 isCode n = eqb n code0028 || eqb n code0010
 
--- of the refusals 31 alone, and no fault
+-- of the refusals 31 alone, at place 0, and no fault
 abbrev pub allowed : Answer → Bool
 allowed running = true
 allowed waiting = true
 allowed finished = true
 allowed (stopped n) = isCode n
 allowed (fault n) = false
-allowed (refuse n) = eqb n 31
+allowed (refuse n k) = eqb n 31 && eqb k 0
 
 abbrev pub unbroken : Status → Bool
 unbroken live = true
@@ -112,9 +65,9 @@ pub record Promise (items : List Item) (m : Run) (c : Control) (o : Offer) (s : 
   pub answer : allowed (s .answer) ≡ true
   pub state : unbroken (s .next .status) ≡ true
   -- until the run ends, an offer of the wrong sort is refused by 31, hands out nothing and changes nothing
-  pub wrong-sort : m .status ≡ live → wrongSort items m c o ≡ true → s ≡ record { answer = refuse 31; outs = []; next = m }
+  pub wrong-sort : m .status ≡ live → wrongSort items m c o ≡ true → s ≡ record { answer = refuse 31 0; outs = []; next = m }
   -- and 31 comes of nothing else
-  pub only-wrong : s .answer ≡ refuse 31 → (m .status ≡ live) × (wrongSort items m c o ≡ true)
+  pub only-wrong : s .answer ≡ refuse 31 0 → (m .status ≡ live) × (wrongSort items m c o ≡ true)
 
 -- of every step of a run, one for each control and offer: the length of the script's bytes, the table, and the run so far
 abbrev pub Promises : ℕ → Script → Run → List (Control × Offer) → Type 0

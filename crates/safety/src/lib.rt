@@ -9,11 +9,10 @@ use state::Thing;
 use state::What;
 use table::Script;
 ghost use mathlib.Core.Path.{_≡_};
-ghost use mathlib.Core.Bool.{true};
 ghost use lib.ListN.{length};
 ghost use Rattle.machine.specs.Course.{stepsOf, courseOf};
-ghost use Rattle.safety.specs.Safety.{allAllowed};
-ghost use Rattle.safety.specs.Outcome.{none, refusal, checkedOutcome, outcome, Fixed, numberOf, lineOf, meaning};
+ghost use Rattle.safety.specs.Outcome.{none, refusal, checkedOutcome, ExactOutcome, Fixed};
+ghost use Rattle.safety.specs.Outcome.{numberOf, lineOf, meaning};
 
 // By the checker; or refused by form or by a rule, at a line.
 pub enum Judged {
@@ -77,7 +76,7 @@ fn check_and_run(text: &[u8], script: Script, steps: Steps) -> Checked
 
 // Loads, checks and runs up to 64 steps from fresh.
 pub fn run(text: &[u8], steps: Steps) -> Checked
-    ensures { λ r. ⌜ (meaning r ≡ outcome (now (text .entry)) (stepsOf steps)) × (allAllowed (courseOf (r .ran) .answers) ≡ true) × Fixed (r .ran) ⌝ }
+    ensures { λ r. ⌜ ExactOutcome (now (text .entry)) (stepsOf steps) r ⌝ }
 {
     let loaded = script::load(text);
     let answer = loaded.answer;

@@ -11,8 +11,8 @@ use native.Mathlib.Nat.{not-suc-le-zero, le-of-suc-le-suc}
 use Rattle.text.specs.Hex.{hex4}
 use Rattle.text.specs.Put.{putIn, put, room}
 use Rattle.text.proofs.Put.{fitting}
-use Rattle.thing_text.specs.Thing.{hex16, leaves, write}
-use Rattle.thing_text.specs.Words.{Words, wordsOf, Adds, Reads}
+use Rattle.thing_text.specs.Thing.{hex16, refused, accepted, leaves, write}
+use Rattle.thing_text.specs.Code.{Words, wordsOf, Adds, Reads}
 
 pub adds-byte : (l : List ℕ) (n b : ℕ) → n < length l → take (n + 1) (set l n b) ≡ take n l ++ b ∷ []
 adds-byte l n b h = rw add-one (take-suc-set l n b h)
@@ -89,7 +89,7 @@ adds-hex16 {w} {x} n e f g h k = subst (λ (vs : List ℕ). Adds w vs x) (four-f
 -- ---- into the lent buffer
 
 pub too-short : (text buf : List ℕ) (n : ℕ) → n ≡ length text → length buf < n
-    → leaves 5 0 buf ≡ write text buf
+    → leaves (refused 5 0) buf ≡ write text buf
 unfolding write
 too-short text buf n e h = rw (lt-ltb (length buf) (length text) (omega (arith, e)))
 
@@ -99,7 +99,7 @@ taken-fits l n e = omega (arith, e, length-take n l)
 pub all-written : (text buf after taken : List ℕ) (n : ℕ) → n ≡ length text → taken ≡ text
     → n ≤ length buf
     → after ≡ putIn buf 0 taken
-    → leaves 0 n after ≡ write text buf
+    → leaves (accepted n) after ≡ write text buf
 unfolding write
 all-written text buf after taken n e t h k =
     rw (le-ltb (length buf) (length text) (omega (arith, e)), k, t, fitting buf text 0 (omega (arith, e)), e)

@@ -22,7 +22,7 @@ use Rattle.state.specs.declared.LoopSort.the-variants.{Loop as aLoop, Sweep as 
 use Rattle.state.specs.State.{Out, nought, enters, leaves as leavesLoop, packStart, packEnd, packPart, says, waits}
 use Rattle.state.specs.State.{setsE, setsMode, switchesCell}
 use Rattle.thing_text.specs.Thing.{decimal, wholeText, hex16, valueText}
-use Rattle.thing_text.specs.Thing.{amountText, textOf, Written, leaves, write}
+use Rattle.thing_text.specs.Thing.{amountText, textOf, refused, accepted, Written, leaves, write}
 use Rattle.thing_text.specs.Read.{Front, numberFrom, readDecimal, minus, bySign, readWhole, readHex4, readHex16}
 use Rattle.thing_text.specs.Read.{readValue, readAmount, partOf, rangeOf}
 use Rattle.thing_text.specs.Read.{readThing, SoundValue, Sound, ReadsBack}
@@ -118,15 +118,17 @@ pub tells : (o p : Out) → Sound o → Sound p → textOf o ≡ textOf p → o 
 tells o p h k e = sym (reads-back o h) ∙ ap readThing e ∙ reads-back p k
 
 -- and what was written into a buffer gives the thing back
-pub written-back : (o : Out) (buf after : List ℕ) (n : ℕ) → Sound o → write (textOf o) buf ≡ leaves 0 n after
+pub written-back : (o : Out) (buf after : List ℕ) (n : ℕ) → Sound o
+    → write (textOf o) buf ≡ leaves (accepted n) after
     → readThing (take n after) ≡ o
 unfolding write
 written-back o buf after n h e = go (ltb (length buf) (length (textOf o))) e
   where
     go : (b : Bool)
-        → cond b (leaves 5 0 buf) (leaves 0 (length (textOf o)) (put buf 0 (textOf o))) ≡ leaves 0 n after
+        → cond b (leaves (refused 5 0) buf) (leaves (accepted (length (textOf o))) (put buf 0 (textOf o)))
+        ≡ leaves (accepted n) after
         → readThing (take n after) ≡ o
-    go true q = let z : _≡_ {A = ℕ} 5 0 = cc in absurd (omega arith)
+    go true q = let z : _≡_ {A = ℕ} 0 1 = cc in absurd (omega arith)
     go false q =
         let a : length (textOf o) ≡ n = cc in
         let l : put buf 0 (textOf o) ≡ after = cc in

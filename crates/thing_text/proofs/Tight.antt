@@ -1,18 +1,18 @@
 -- No second answer fits a public function's contract.
 use Prim.Native.Nat.{ℕ}
 use mathlib.Core.Path.{_≡_, refl, sym, ap, _∙_}
-use mathlib.Core.Bool.{cond}
 use mathlib.Core.List.{List}
-use lib.Dec.{eqb}
 use Rattle.state.specs.declared.Thing.{Thing}
 use Rattle.state.specs.Meaning.{outOf}
-use Rattle.thing_text.specs.Thing.{textOf, leaves, write}
-use Rattle.thing_text.specs.Words.{Put, written, short, numberOf, countOf, leavesBy}
+use Rattle.thing_text.specs.Thing.{textOf, Answer, refused, accepted, leaves, write}
+use Rattle.thing_text.specs.Answer.{Put, written, short, numberOf, meaning, leavesBy}
 
-putOf : ℕ → ℕ → Put
-putOf r n = cond (eqb r 0) (written n) short
+-- what an answer says tells the answer
+putOf : Answer → Put
+putOf (accepted n) = written n
+putOf (refused number place) = short
 
-put-back : (x : Put) → putOf (numberOf x) (countOf x) ≡ x
+put-back : (x : Put) → putOf (meaning x) ≡ x
 unfolding putOf
 put-back (written n) = refl
 put-back short = refl
@@ -25,8 +25,7 @@ pub only-put-thing : (thing : Thing) (buf : List ℕ) (x y : Put) (out out′ : 
     → leavesBy y out′ ≡ write (textOf (outOf (thing .what))) buf
     → (x ≡ y) × (out ≡ out′)
 only-put-thing thing buf x y out out′ h k =
-    let e : leaves (numberOf x) (countOf x) out ≡ leaves (numberOf y) (countOf y) out′ = h ∙ sym k in
-    let r : numberOf x ≡ numberOf y = cc in
-    let n : countOf x ≡ countOf y = cc in
+    let e : leaves (meaning x) out ≡ leaves (meaning y) out′ = h ∙ sym k in
+    let a : meaning x ≡ meaning y = cc in
     let o : out ≡ out′ = cc in
-    (sym (put-back x) ∙ rw (r, n) (put-back y), o)
+    (sym (put-back x) ∙ ap putOf a ∙ put-back y, o)

@@ -1,3 +1,4 @@
 pub mod Thing
-pub mod Words
+pub mod Answer
+pub mod Code
 pub mod Read

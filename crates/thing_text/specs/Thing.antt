@@ -83,10 +83,16 @@ textOf (switchesCell b) = cellText b
 
 -- ---- written into a lent buffer
 
--- 0 and how many bytes, or the number of the refusal; and the lent buffer as it then is
+-- an answer: a refusal's number and place (0: it has none); or so many bytes
+pub data Answer : Type 0 where
+  refused : (number place : ℕ) → Answer
+  accepted : ℕ → Answer
+
+-- an answer, and the lent buffer as it then is
 pub data Written : Type 0 where
-  leaves : ℕ → ℕ → List ℕ → Written
+  leaves : Answer → List ℕ → Written
 
 -- 5 where the buffer is too short, which then stays as it was
 unfoldable pub write : List ℕ → List ℕ → Written
-write text buf = cond (ltb (length buf) (length text)) (leaves 5 0 buf) (leaves 0 (length text) (put buf 0 text))
+write text buf =
+    cond (ltb (length buf) (length text)) (leaves (refused 5 0) buf) (leaves (accepted (length text)) (put buf 0 text))

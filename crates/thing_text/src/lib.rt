@@ -17,7 +17,8 @@ ghost use Rattle.state.specs.State.{packPart, says};
 ghost use Rattle.state.specs.Meaning.{outOf, orderOf};
 ghost use Rattle.thing_text.specs.Thing.{decimal, hex16, signText, wholeText, valueText, amountText};
 ghost use Rattle.thing_text.specs.Thing.{enterText, leaveText, textOf, write};
-ghost use Rattle.thing_text.specs.Words.{wordsOf, Adds, Reads, numberOf, leavesBy};
+ghost use Rattle.thing_text.specs.Answer.{numberOf, leavesBy};
+ghost use Rattle.thing_text.specs.Code.{wordsOf, Adds, Reads};
 
 // As many digits as a number of 64 bits has.
 const DIGITS: usize = 20;

@@ -1,6 +1,6 @@
 // The reader of a reply's lines, and the content of a framed line.
 ghost use mathlib.Core.Path.{_≡_};
-ghost use Rattle.reply.specs.Code.{nextLine, placeAfter};
+ghost use Rattle.reply.specs.Lines.{nextLine, placeAfter};
 use case_text::put::put;
 use case_text::put::put_hex;
 use case_text::put::put_line;

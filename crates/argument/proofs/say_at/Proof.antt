@@ -15,7 +15,10 @@ text-at-requires c κs = search needs
 
 returns : tie.Need-returns
 unfolding saidAt
-returns c = (simp (sym (c .before .before .is-text .ensures) ∙ c .before .if1 .taken, sym (c .text-at .ensures .0)), λ h. c .text-at .ensures .1)
+returns c = record {
+  says = simp (sym (c .before .before .is-text .ensures) ∙ c .before .if1 .taken, sym (c .text-at .ensures .0));
+  inside = λ h. c .text-at .ensures .1;
+}
 
 sub-say : tie.Need-sub-say
 sub-say c = search needs
@@ -31,7 +34,15 @@ say-requires c κs = search needs
 
 returns-2 : tie.Need-returns-2
 unfolding saidAt
-returns-2 c = (L.said-past (c .before .before .before .before .before .before .args .names .now) (c .before .before .before .before .before .before .args .line .now) (c .before .before .before .before .before .before .args .form) (c .before .before .before .before .before .before .args .at) _ (sym (c .before .before .before .before .is-text .ensures) ∙ c .before .before .before .if1 .left) (c .before .before .if2 .taken) (c .say .ensures), λ h. absurd (omega (arith, h)))
+returns-2 c =
+    let tested = c .before .before .before in
+    let a = tested .before .before .before .args in
+    record {
+      says = L.said-past (a .names .now) (a .line .now) (a .form) (a .at) _
+          (sym (tested .before .is-text .ensures) ∙ tested .if1 .left) (c .before .before .if2 .taken)
+          (c .say .ensures);
+      inside = λ h. absurd (omega (arith, h));
+    }
 
 word-at-requires : tie.Need-word-at-requires
 word-at-requires c κs = search needs
@@ -50,7 +61,19 @@ say-requires-2 c κs = search needs
 
 returns-3 : tie.Need-returns-3
 unfolding saidAt
-returns-3 c = (simp (sym (c .before .before .before .before .before .is-text .ensures) ∙ c .before .before .before .before .if1 .left, sym (c .before .before .word-at .ensures), sym (c .say2 .ensures)), λ h. inside (c .before .before .word-at .result) (c .before .before .before .before .before .before .before .args .line .now) (c .before .before .before .before .before .before .before .args .at) (c .before .before .word-at .ensures) (c .before .before .before .if2 .left) .1)
+returns-3 c =
+    let found = c .before .before in
+    let tested = found .before .before in
+    let a = tested .before .before .before .args in
+    record {
+      says = simp (
+        sym (tested .before .is-text .ensures) ∙ tested .if1 .left,
+        sym (found .word-at .ensures),
+        sym (c .say2 .ensures),
+      );
+      inside = λ h. inside (found .word-at .result) (a .line .now) (a .at) (found .word-at .ensures)
+          (found .before .if2 .left) .1;
+    }
 
 pub say-at-spec : {M : Type 1} → statement M
 say-at-spec =

@@ -29,14 +29,14 @@ next-byte-requires c κs = search needs
 
 returns-3 : tie.Need-returns-3
 unfolding textAt
-returns-3 c = (simp (sym (c .before .before .before .before .before .run-from .ensures), eq-eqb _ _ (c .before .before .if2 .left), sym (c .before .next-byte .ensures .0), le-ltb _ _ (c .if3 .taken)), omega arith)
+returns-3 c = (simp (sym (c .before .before .before .before .before .run-from .ensures), eq-eqb _ _ (c .before .before .if2 .left), sym (c .before .next-byte .ensures .is), le-ltb _ _ (c .if3 .taken)), omega arith)
 
 add-t19 : tie.Need-add-t19
 add-t19 c = search needs
 
 returns-4 : tie.Need-returns-4
 unfolding textAt
-returns-4 c = (simp (sym (c .before .before .before .before .before .run-from .ensures), eq-eqb _ _ (c .before .before .if2 .left), sym (c .before .next-byte .ensures .0), lt-ltb _ _ (c .if3 .left)), omega arith)
+returns-4 c = (simp (sym (c .before .before .before .before .before .run-from .ensures), eq-eqb _ _ (c .before .before .if2 .left), sym (c .before .next-byte .ensures .is), lt-ltb _ _ (c .if3 .left)), omega arith)
 
 pub text-at-spec : {M : Type 1} → statement M
 text-at-spec =

@@ -3,7 +3,7 @@ use mathlib.Core.Path.{_≡_, refl}
 use lib.ListN.{length, drop}
 use borrow.Author.Needs.{needs}
 use Rattle.crc.specs.Crc.{shift, shifts, crcFrom, crc}
-use Rattle.crc.specs.Table.{entries}
+use Rattle.crc.specs.Code.{entries}
 use Rattle.crc.proofs.Run.{again, end}
 use Rattle.crc.proofs.crc16.Statement.{statement}
 use Rattle.crc.proofs.crc16.Tie as tie

@@ -65,7 +65,7 @@ returns c = L.all (c .before .before .before .before .before .before .before .be
     (c .before .before .before .before .before .before .before .before .before .before .before .before .form-of .result) (c .before .before .before .before .before .before .before .before .before .before .before .form-of2 .result) (c .before .before .before .before .before .before .before .before .before .before .form-of3 .result) (c .before .before .before .before .before .before .before .before .before .form-of4 .result) (c .before .before .before .before .before .before .before .before .form-of5 .result) (c .before .before .before .before .before .before .before .form-of6 .result)
     (c .before .before .before .before .before .before .say-at .result) (c .before .before .before .before .before .say-at2 .result) (c .before .before .before .before .say-at3 .result) (c .before .before .before .say-at4 .result) (c .before .before .say-at5 .result) (c .before .say-at6 .result) (c .say-at7 .result)
     (c .before .before .before .before .before .before .before .before .before .before .before .before .form-of .ensures) (c .before .before .before .before .before .before .before .before .before .before .before .form-of2 .ensures) (c .before .before .before .before .before .before .before .before .before .before .form-of3 .ensures) (c .before .before .before .before .before .before .before .before .before .form-of4 .ensures) (c .before .before .before .before .before .before .before .before .form-of5 .ensures) (c .before .before .before .before .before .before .before .form-of6 .ensures)
-    (c .before .before .before .before .before .before .say-at .ensures .0) (c .before .before .before .before .before .say-at2 .ensures .0) (c .before .before .before .before .say-at3 .ensures .0) (c .before .before .before .say-at4 .ensures .0) (c .before .before .say-at5 .ensures .0) (c .before .say-at6 .ensures .0) (c .say-at7 .ensures .0)
+    (c .before .before .before .before .before .before .say-at .ensures .says) (c .before .before .before .before .before .say-at2 .ensures .says) (c .before .before .before .before .say-at3 .ensures .says) (c .before .before .before .say-at4 .ensures .says) (c .before .before .say-at5 .ensures .says) (c .before .say-at6 .ensures .says) (c .say-at7 .ensures .says)
 
 pub say-all-spec : {M : Type 1} → statement M
 say-all-spec =

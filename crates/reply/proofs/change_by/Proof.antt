@@ -3,7 +3,7 @@ use Prim.Native.Nat.{ℕ}
 use Rattle.reply_line.specs.declared.Line.{Line}
 use Rattle.reply.specs.declared.Row.{Row}
 use Rattle.reply.specs.Rows.{newRow}
-use Rattle.reply.specs.Table.{change, changeBy}
+use Rattle.reply.specs.Code.{change, changeBy}
 use borrow.Author.Needs.{needs}
 use Rattle.reply.proofs.change_by.Statement.{statement}
 use Rattle.reply.proofs.change_by.Tie as tie

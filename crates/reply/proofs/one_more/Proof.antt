@@ -1,5 +1,5 @@
 use borrow.Author.Tests.{lt-ltb, le-ltb}
-use Rattle.reply.specs.Table.{oneMore}
+use Rattle.reply.specs.Code.{oneMore}
 use borrow.Author.Needs.{needs}
 use Rattle.reply.proofs.one_more.Statement.{statement}
 use Rattle.reply.proofs.one_more.Tie as tie

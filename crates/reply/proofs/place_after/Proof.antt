@@ -1,6 +1,6 @@
 use mathlib.Core.Path.{sym, ap}
 use Rattle.reply.specs.declared.NextLine.{NextLine}
-use Rattle.reply.specs.Code.{placeAfter}
+use Rattle.reply.specs.Lines.{placeAfter}
 use borrow.Author.Needs.{needs}
 use Rattle.reply.proofs.place_after.Statement.{statement}
 use Rattle.reply.proofs.place_after.Tie as tie

@@ -1,6 +1,6 @@
 use mathlib.Core.Path.{sym, ap}
 use Rattle.reply_line.specs.declared.Line.{Line}
-use Rattle.reply.specs.Table.{placeBy}
+use Rattle.reply.specs.Code.{placeBy}
 use borrow.Author.Needs.{needs}
 use Rattle.reply.proofs.place_by.Statement.{statement}
 use Rattle.reply.proofs.place_by.Tie as tie

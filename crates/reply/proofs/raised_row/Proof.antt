@@ -1,4 +1,4 @@
-use Rattle.reply.specs.Table.{raisedRow}
+use Rattle.reply.specs.Code.{raisedRow}
 use borrow.Author.Needs.{needs}
 use Rattle.reply.proofs.raised_row.Statement.{statement}
 use Rattle.reply.proofs.raised_row.Tie as tie

@@ -53,7 +53,7 @@ use Rattle.reply.specs.declared.Stand.{Stand}
 use Rattle.reply.specs.declared.Turn.{Turn}
 use Rattle.reply.specs.Reply.{verdict, meaning}
 use Rattle.reply.specs.Rows.{scriptRow}
-use Rattle.reply.specs.Table.{standing, startIn, placeIn, turned, turnAt, rowsAt, tableFrom, standFrom}
+use Rattle.reply.specs.Code.{standing, startIn, placeIn, turned, turnAt, rowsAt, tableFrom, standFrom}
 use Rattle.reply.proofs.Turns.{place-below, ahead}
 use Rattle.reply.proofs.Whole.{has-rows, whole as all-rows, table-is, answer-is}
 use Rattle.reply.proofs.Walk.{Of, call-fn, ty, after}
@@ -259,7 +259,12 @@ module _ {M : Type 1} (𝓤 : URA M) (H : Heap 𝓤) (A : Atoms 𝓤) (W : Given
   exits room t over =
       qed W (‵ (fobs γ (codedHoleys T.the-row .code (heres T.the-row (t .ys)))) ∷ ‵ (fbor κ (Held T.the-row (length (t .ys)) b o γ)) ∷ ‵ (flft κ q) ∷ Lent ∷ []) ∵
       suffices ! _ (ends-at 𝓤 H A f.ended stayed (f.clauses 𝓤 H A mem run) W (((μ, (κ, tt)), (p, (q, tt)), tt, a, vals), tt) (an-mach (t .st .answer)) (t .st .answer) (tt, (t .ys, tt)) (tt, (t .same, tt))) $
-      says ! (ap (λ (z : Stand). meaning (z .answer)) (sym (state-done (t .fuel) s N (t .st) (t .ys) over) ∙ t .state-is) ∙ answer-is (startIn s N .end) s N ys₀, sym (rows-done (t .fuel) s N (t .st) (t .ys) over) ∙ t .rows-are ∙ table-is s ys₀) $
+      says ! (record {
+        says = ap (λ (z : Stand). meaning (z .answer))
+            (sym (state-done (t .fuel) s N (t .st) (t .ys) over) ∙ t .state-is)
+            ∙ answer-is (startIn s N .end) s N ys₀;
+        rows = sym (rows-done (t .fuel) s N (t .st) (t .ys) over) ∙ t .rows-are ∙ table-is s ys₀;
+      }) $
       -- [obs; the borrow; κ's token; μ's token and the reply's]
       move ! (3 ∷ []) $ split ! $ split ! $ move ! (5 ∷ 1 ∷ []) $ join ! $ move ! (1 ∷ 0 ∷ []) $ join ! $ frame ! $
       -- [the reply's; obs; the borrow]

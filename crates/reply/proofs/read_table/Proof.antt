@@ -49,8 +49,8 @@ use Rattle.reply_line.proofs.Kind as K
 use Rattle.reply_line.proofs.Kind.Laws as K′
 use Rattle.reply.specs.declared.Answer.{Answer}
 use Rattle.reply.specs.declared.Row.{Row}
-use Rattle.reply.specs.Reply.{meaning, outcomeOf}
-use Rattle.reply.specs.Rows.{scriptRow, tableOf, tableMeaning, readTable}
+use Rattle.reply.specs.Reply.{outcomeOf}
+use Rattle.reply.specs.Rows.{scriptRow, ReadRows, tableMeaning, readTable}
 use Rattle.reply.proofs.Walk.{ty, big-lit}
 use Rattle.reply.proofs.Lend.{lends-array, array-back}
 use Rattle.reply.proofs.Tabled.{R, mach, an-mach, arr, arr-tells, tb, tb-mach, made, an-is, typed, arr-typed}
@@ -91,15 +91,15 @@ row-good = LL.owes T.the-type T′.the-laws scriptRow (
 
 -- what `read_reply` ensures of its answer and of the rows
 abbrev Filled : List ℕ → List Row → Answer → Type 0
-Filled s zs v = (meaning v ≡ outcomeOf (length xs) s) × (zs ≡ tableOf s xs)
+Filled s zs v = ReadRows s xs v zs
 
 is-table : (s : List ℕ) (zs : List Row) (v : Answer) → Filled s zs v → tableMeaning
     (record { rows = zs; answer = v }) ≡ readTable s
 unfolding tableMeaning readTable
 is-table s zs v e = λ i. record {
-  outcome = (e .0 ∙ ap (λ (m : ℕ). outcomeOf m s)
+  outcome = (e .says ∙ ap (λ (m : ℕ). outcomeOf m s)
       (length-replicate 1024 scriptRow)) i;
-  rows = e .1 i;
+  rows = e .rows i;
 }
 
 arr-room : Room R 1024

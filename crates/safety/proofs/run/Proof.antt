@@ -27,13 +27,23 @@ returns : tie.Need-returns
 returns c =
     let a = c .before .before .before .before .before .before .args in
     let said = c .check-and-run .ensures .0 ∙ sym (form-yes (a .text .now) (stepsOf (a .steps)) (c .before .before .before .before .load .result) (c .before .before .before .before .load .ensures) (c .before .before .enum-told .given .1)) in
-    (said, ap (λ (o : Outcome). allAllowed (o .course .answers)) said ∙ promised (a .text .now) (stepsOf (a .steps)), c .check-and-run .ensures .1)
+    record {
+      says = said;
+      allowed = ap (λ (o : Outcome). allAllowed (o .course .answers)) said
+          ∙ promised (a .text .now) (stepsOf (a .steps));
+      fixed = c .check-and-run .ensures .1;
+    }
 
 returns-2 : tie.Need-returns-2
 returns-2 c =
     let a = c .before .before .before .before .before .before .args in
     let said = c .refused .ensures .0 ∙ sym (form-no (a .text .now) (stepsOf (a .steps)) (c .before .before .before .before .load .result) (c .before .before .before .before .load .ensures) _ _ (c .before .before .answer .given .1)) in
-    (said, ap (λ (o : Outcome). allAllowed (o .course .answers)) said ∙ promised (a .text .now) (stepsOf (a .steps)), c .refused .ensures .1)
+    record {
+      says = said;
+      allowed = ap (λ (o : Outcome). allAllowed (o .course .answers)) said
+          ∙ promised (a .text .now) (stepsOf (a .steps));
+      fixed = c .refused .ensures .1;
+    }
 
 pub run-spec : {M : Type 1} → statement M
 run-spec =

@@ -2,7 +2,7 @@ use Prim.Native.Nat.{ℕ}
 use mathlib.Core.List.{List}
 use mathlib.Core.Path.{subst, _∙_}
 use native.Mathlib.Omega.{arith}
-use Rattle.thing_text.specs.Words.{Adds}
+use Rattle.thing_text.specs.Code.{Adds}
 use Rattle.thing_text.proofs.Numbers.{few-digits, part-all}
 use borrow.Author.Needs.{needs}
 use Rattle.thing_text.proofs.add_decimal.Statement.{statement}

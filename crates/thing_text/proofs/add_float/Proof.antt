@@ -1,7 +1,7 @@
 use Prim.Native.Nat.{ℕ}
 use mathlib.Core.Path.{subst}
 use Rattle.thing_text.specs.Thing.{hex16}
-use Rattle.thing_text.specs.Words.{Adds}
+use Rattle.thing_text.specs.Code.{Adds}
 use borrow.Author.Needs.{needs}
 use Rattle.thing_text.proofs.add_float.Statement.{statement}
 use Rattle.thing_text.proofs.add_float.Tie as tie

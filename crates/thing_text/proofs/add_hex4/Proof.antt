@@ -1,7 +1,7 @@
 use Prim.Native.Nat.{ℕ}
 use mathlib.Core.List.{List}
 use mathlib.Core.Path.{subst, _∙_}
-use Rattle.thing_text.specs.Words.{Adds}
+use Rattle.thing_text.specs.Code.{Adds}
 use Rattle.thing_text.proofs.Bytes.{four-put}
 use borrow.Author.Needs.{needs}
 use Rattle.thing_text.proofs.add_hex4.Statement.{statement}

@@ -6,7 +6,7 @@ use lib.IntN.{ℤ, pos}
 use lib.Signed.{ltZ}
 use mir.Facts.{toZ-ofZ}
 use borrow.Author.Needs.{needs}
-use Rattle.thing_text.specs.Words.{Adds}
+use Rattle.thing_text.specs.Code.{Adds}
 use Rattle.thing_text.proofs.Bytes.{adds-none}
 use Rattle.thing_text.proofs.Signs.{signed, unsigned}
 use Rattle.thing_text.proofs.add_sign.Statement.{statement}

@@ -2,7 +2,7 @@ use lib.IntN.{ℤ}
 use Rattle.value.proofs.Wrap.{back32}
 use mathlib.Core.Path.{sym, subst}
 use Rattle.value.specs.declared.Value.{Value}
-use Rattle.thing_text.specs.Words.{Adds}
+use Rattle.thing_text.specs.Code.{Adds}
 use Rattle.thing_text.proofs.Bytes.{adds-more}
 use Rattle.thing_text.specs.Thing.{wholeText, valueText}
 use borrow.Author.Needs.{needs}

@@ -4,7 +4,7 @@ use mathlib.Core.Path.{ap, subst, _∙_}
 use mir.Facts.{toZ-ofZ}
 use native.Mathlib.Omega.{arith}
 use Rattle.thing_text.specs.Thing.{signText, decimal, wholeText}
-use Rattle.thing_text.specs.Words.{Adds}
+use Rattle.thing_text.specs.Code.{Adds}
 use Rattle.thing_text.proofs.Bytes.{adds-more}
 use borrow.Author.Needs.{needs}
 use Rattle.thing_text.proofs.add_whole.Statement.{statement}

@@ -2,7 +2,7 @@ use Prim.Native.Nat.{_-_, _≤_}
 use lib.ListN.{length, take}
 use native.Mathlib.Omega.{arith}
 use borrow.Author.Needs.{needs}
-use Rattle.thing_text.specs.Words.{Adds}
+use Rattle.thing_text.specs.Code.{Adds}
 use Rattle.thing_text.proofs.Bytes.{adds-none, adds-next, adds-room, adds-all}
 use Rattle.thing_text.proofs.add_word.Statement.{statement}
 use Rattle.thing_text.proofs.add_word.Tie as tie

@@ -1,7 +1,7 @@
 use mathlib.Core.Path.{sym, subst}
 use Rattle.state.specs.declared.LoopSort.{LoopSort}
 use Rattle.thing_text.specs.Thing.{enterText}
-use Rattle.thing_text.specs.Words.{Reads}
+use Rattle.thing_text.specs.Code.{Reads}
 use borrow.Author.Needs.{needs}
 use Rattle.thing_text.proofs.enter_words.Statement.{statement}
 use Rattle.thing_text.proofs.enter_words.Tie as tie

@@ -2,7 +2,7 @@ use mathlib.Core.Path.{sym, subst}
 use Rattle.state.specs.declared.Order.{Order}
 use Rattle.state.specs.Meaning.{orderOf}
 use Rattle.thing_text.specs.Thing.{textOf}
-use Rattle.thing_text.specs.Words.{Reads}
+use Rattle.thing_text.specs.Code.{Reads}
 use Rattle.thing_text.proofs.Bytes.{reads-more}
 use borrow.Author.Needs.{needs}
 use Rattle.thing_text.proofs.order_words.Statement.{statement}

@@ -2,7 +2,7 @@ use mathlib.Core.Path.{sym, subst}
 use Rattle.state.specs.declared.What.{What}
 use Rattle.state.specs.Meaning.{outOf}
 use Rattle.thing_text.specs.Thing.{textOf}
-use Rattle.thing_text.specs.Words.{Reads}
+use Rattle.thing_text.specs.Code.{Reads}
 use borrow.Author.Needs.{needs}
 use Rattle.thing_text.proofs.words_of.Statement.{statement}
 use Rattle.thing_text.proofs.words_of.Tie as tie

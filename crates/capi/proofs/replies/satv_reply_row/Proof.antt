@@ -37,22 +37,22 @@ returns : tie.Need-returns
 returns c =
     let known = c .before .before .before .before .before in
     let read = known .before .before .before in
-    is-row _ zeros _ _ _ room-for-rows (read .read-numbers .ensures .0) _ _ _ _ _ (known .rows .given .1)
-    (c .before .before .before .if1 .taken) (read .read-numbers .ensures .1) (c .before .row-in .ensures)
+    is-row _ zeros _ _ _ room-for-rows (read .read-numbers .ensures .says) _ _ _ _ _ (known .rows .given .1)
+    (c .before .before .before .if1 .taken) (read .read-numbers .ensures .numbers) (c .before .row-in .ensures)
     (c .row-told .ensures)
 
 returns-2 : tie.Need-returns-2
 returns-2 c =
     let known = c .before .before .before in
     let read = known .before .before .before in
-    is-no-row _ zeros _ _ _ room-for-rows (read .read-numbers .ensures .0) _ _ _ (known .rows .given .1)
+    is-no-row _ zeros _ _ _ room-for-rows (read .read-numbers .ensures .says) _ _ _ (known .rows .given .1)
     (c .before .if1 .left) (c .no-row .ensures)
 
 returns-3 : tie.Need-returns-3
 returns-3 c =
     let known = c .before .before .before in
     let read = known .before .before .before in
-    is-row-refused _ zeros _ _ _ room-for-rows (read .read-numbers .ensures .0) _ _ _ (known .why .given .1)
+    is-row-refused _ zeros _ _ _ room-for-rows (read .read-numbers .ensures .says) _ _ _ (known .why .given .1)
     (c .before .number .ensures) (c .no-row2 .ensures)
 
 pub satv-reply-row-spec : {M : Type 1} → statement M

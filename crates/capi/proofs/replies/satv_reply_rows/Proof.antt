@@ -16,7 +16,10 @@ same-length c = search needs
 returns : tie.Need-returns
 returns c =
     let read = c .before .before .before in
-    (c .told .ensures ∙ ap replyNumbers (read .read-numbers .ensures .0), read .read-numbers .ensures .1)
+    record {
+      result = c .told .ensures ∙ ap replyNumbers (read .read-numbers .ensures .says);
+      numbers = read .read-numbers .ensures .numbers;
+    }
 
 pub satv-reply-rows-spec : {M : Type 1} → statement M
 satv-reply-rows-spec = tie.close (tie.spec read-numbers-requires told-requires same-length returns)

@@ -45,7 +45,7 @@ use denote.Triple.Walked.{says, Stays, stay-ref, walkOf, goes-ref, ends-at, walk
 use denote.Signature.{Slot, plain, namedLft}
 use Rattle.reply.specs.declared.LineReader.{LineReader}
 use Rattle.reply.specs.declared.NextLine.{NextLine}
-use Rattle.reply.specs.Code.{nextLine, placeAfter}
+use Rattle.reply.specs.Lines.{nextLine, placeAfter}
 use Rattle.reply.proofs.Walk.{Of, call-fn}
 use Rattle.reply.proofs.LineReader as T
 use Rattle.reply.proofs.LineReader.Laws as T′
@@ -127,7 +127,7 @@ module _ {M : Type 1} (𝓤 : URA M) (H : Heap 𝓤) (A : Atoms 𝓤) (W : Given
   exits : Is Ln.the-row found (ln-mach found ∷ []) → ent 𝓤 (sep 𝓤 (A .obs γ (B κ′ .coded .code h′)) (sep 𝓤 (A .bor κ (Body (in-mem (B κ′)) b o γ)) (sep 𝓤 (A .lft κ q) (sep 𝓤 (A .lft κ′ q′) (emp 𝓤))))) (Post (ln-mach found))
   exits gl =
       qed W (‵ (fobs γ (B κ′ .coded .code h′)) ∷ ‵ (fbor κ (Body (in-mem (B κ′)) b o γ)) ∷ ‵ (flft κ q) ∷ (‵ (flft κ′ q′) ⊛ ‵ ftrue) ∷ []) ∵
-      suffices ! _ (ends-at 𝓤 H A f.ended stayed (f.clauses 𝓤 H A mem run) W (((κ, (κ′, tt)), (q, (q′, tt)), bounds, x, at), tt) (ln-mach found) found (h′, tt) (tt, tt)) $ says ! (refl, (refl, refl)) $
+      suffices ! _ (ends-at 𝓤 H A f.ended stayed (f.clauses 𝓤 H A mem run) W (((κ, (κ′, tt)), (q, (q′, tt)), bounds, x, at), tt) (ln-mach found) found (h′, tt) (tt, tt)) $ says ! (record { line = refl; over = refl; place = refl }) $
       move ! (2 ∷ 3 ∷ []) $ join ! $
       frame ! $ feqI ! (List Val) (vptr b o ∷ []) (vptr b o ∷ []) refl $ fjoin3 ! $ nothing ! $ move ! (1 ∷ 0 ∷ []) $ fjoin ! $ frame ! $ owned ! Ln.the-row (Is Ln.the-row) (EL.makes Ln.the-type Ln′.the-plain 𝓤 H A) found _ gl $ done !
 

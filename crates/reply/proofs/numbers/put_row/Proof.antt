@@ -1,7 +1,7 @@
 use native.Mathlib.Omega.{arith}
 use lib.ListN.{length-set}
 use Rattle.text.proofs.Put.{stores4}
-use Rattle.reply.specs.Numbers.{cutRow, putRow}
+use Rattle.reply.specs.Code.{cutRow, putRow}
 use borrow.Author.Needs.{needs}
 use Rattle.reply.proofs.numbers.put_row.Statement.{statement}
 use Rattle.reply.proofs.numbers.put_row.Tie as tie

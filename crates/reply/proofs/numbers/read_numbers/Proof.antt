@@ -55,7 +55,9 @@ same-length : tie.Need-same-length Inv-loop μ-loop
 same-length c = c .before .before .loop .inv .size
 
 returns : tie.Need-returns Inv-loop μ-loop
-returns c = come-end _ _ _ _ _ (c .before .before .loop .inv) (c .if1 .left)
+returns c =
+    let end = come-end _ _ _ _ _ (c .before .before .loop .inv) (c .if1 .left) in
+    record { says = end .0; numbers = end .1 }
 
 pub read-numbers-spec : {M : Type 1} → statement M
 read-numbers-spec =

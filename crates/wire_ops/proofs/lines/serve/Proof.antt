@@ -69,7 +69,7 @@ use denote.Triple.Walked.{says, Stays, stay-none, stay-none-slice, walkOf, goes-
 use denote.Triple.Walked.{walked, walk-meets}
 use Rattle.reply.specs.declared.LineReader.{LineReader}
 use Rattle.reply.specs.declared.NextLine.{NextLine}
-use Rattle.reply.specs.Code.{nextLine, placeAfter}
+use Rattle.reply.specs.Lines.{nextLine, placeAfter, Begins, Serves}
 use Rattle.reply.proofs.Walk.{ty}
 use Rattle.reply.proofs.LineReader as T
 use Rattle.reply.proofs.LineReader.Laws as T′
@@ -211,9 +211,9 @@ module _ {M : Type 1} (𝓤 : URA M) (H : Heap 𝓤) (A : Atoms 𝓤) (W : Given
 
   new-said : (r : LineReader)
       → ent 𝓤 (ensured 𝓤 H A new.ended (new.clauses 𝓤 H A mem run) (κ, tt) (s, tt) tt r)
-      (fact 𝓤 ((r .reply ≡ s) × (r .at ≡ 0)))
+      (fact 𝓤 (Begins s r))
   new-said r = exE 𝓤 _ (λ ws. snd∗ 𝓤 (sem 𝓤 H A (lasts new.ended (κ, tt) (s, tt) ws))
-      (fact 𝓤 ((r .reply ≡ s) × (r .at ≡ 0))))
+      (fact 𝓤 (Begins s r)))
 
   -- the reader put at the place
   abbrev put-at : LineReader → LineReader
@@ -253,18 +253,13 @@ module _ {M : Type 1} (𝓤 : URA M) (H : Heap 𝓤) (A : Atoms 𝓤) (W : Given
       nothing ! $ move ! (2 ∷ 0 ∷ []) $ fjoin ! $ move ! (1 ∷ 0 ∷ []) $ join ! $
       nothing ! $ move ! (1 ∷ 0 ∷ []) $ join ! $ done !
 
-  -- what `next` says of the line and of the reader h, which is then z
-  abbrev Said : LineReader → LineReader → NextLine → Type 0
-  Said h z l = (l ≡ nextLine (now (h .reply)) (h .at))
-      × ((z .reply ≡ h .reply) × (z .at ≡ placeAfter (nextLine (now (h .reply)) (h .at)) (h .at)))
-
-  told : (r z : LineReader) (l : NextLine) → (r .reply ≡ s) × (r .at ≡ 0) → Said (put-at r) z l
+  told : (r z : LineReader) (l : NextLine) → Begins s r → Serves (put-at r) l z
       → Told (served (r .at) l (z .at))
   told r z l e said = (
-    e .1,
+    e .place,
     (
-      said .0 ∙ ap (λ (t : RefT (List ℕ)). nextLine (now t) at) (e .0),
-      said .1 .1 ∙ ap (λ (t : RefT (List ℕ)). placeAfter (nextLine (now t) at) at) (e .0),
+      said .line ∙ ap (λ (t : RefT (List ℕ)). nextLine (now t) at) (e .over),
+      said .place ∙ ap (λ (t : RefT (List ℕ)). placeAfter (nextLine (now t) at) at) (e .over),
     ),
   )
 
@@ -292,8 +287,8 @@ module _ {M : Type 1} (𝓤 : URA M) (H : Heap 𝓤) (A : Atoms 𝓤) (W : Given
         ∷ []))) ⊛ raw
         (ensured 𝓤 H A new.ended (new.clauses 𝓤 H A mem run) (κ, tt) (s, tt) tt r)))) (id⊢ 𝓤 _) $
         await ! tt $ pick ! (λ r.
-        split ! $ move ! (1 ∷ []) $ use1 W (raw (fact 𝓤 ((r .reply ≡ s) × (r .at ≡ 0)))) (new-said r) $
-        heard ! ((r .reply ≡ s) × (r .at ≡ 0)) (λ e. split ! $ move ! (1 ∷ []) $
+        split ! $ move ! (1 ∷ []) $ use1 W (raw (fact 𝓤 (Begins s r))) (new-said r) $
+        heard ! (Begins s r) (λ e. split ! $ move ! (1 ∷ []) $
         -- [what the reader owns; the token; the reply's; the place's; _8; …; _0; …]
         peeks ! (B κ) (Is (B κ)) (shows 𝓤 H A (B κ)) r (u ∷ []) (λ is.
         land ! (from ! (stop !))
@@ -340,8 +335,8 @@ module _ {M : Type 1} (𝓤 : URA M) (H : Heap 𝓤) (A : Atoms 𝓤) (W : Given
         split ! $ move ! (1 ∷ []) $
         use1 W (some (λ (zs : LineReader × Unit {0}). ‵
         (lasts next.ended (ν ∷ κ, (κ, tt)) (x l₃ γ (put-at r), tt) zs) ⊛ raw
-        (fact 𝓤 (Said (put-at r) (zs .0) l)))) (id⊢ 𝓤 _) $
-        pick ! (λ zs. split ! $ move ! (1 ∷ []) $ heard ! (Said (put-at r) (zs .0) l) (λ said. fsplit ! $
+        (fact 𝓤 (Serves (put-at r) l (zs .0))))) (id⊢ 𝓤 _) $
+        pick ! (λ zs. split ! $ move ! (1 ∷ []) $ heard ! (Serves (put-at r) l (zs .0)) (λ said. fsplit ! $
         -- [the last reader; true; the tokens and the result; the way back; the lender's part; the reply's; …]
         move ! (2 ∷ []) $ split ! $ move ! (1 ∷ []) $
         peeks ! Ln.the-row (Is Ln.the-row) (shows 𝓤 H A Ln.the-row) l (w ∷ []) (λ is₀. drop ! $

@@ -55,7 +55,7 @@ use Rattle.reply_line.proofs.Kind.Laws as K′
 use Rattle.reply.specs.declared.Answer.{Answer}
 use Rattle.reply.specs.declared.Row.{Row}
 use Rattle.reply.specs.Reply.{meaning, outcomeOf}
-use Rattle.reply.specs.Rows.{tableOf}
+use Rattle.reply.specs.Rows.{ReadRows}
 use Rattle.reply.proofs.Walk.{ty}
 use borrow.Table.Elements.{at-mul}
 use denote.Memory.{mem as in-mem}
@@ -121,10 +121,10 @@ row-good = LL.owes T.the-type T′.the-laws anyRow (
 
 -- what `read_reply` ensures of its answer and of the rows
 abbrev Filled : ℕ → List ℕ → List Row → Answer → Type 0
-Filled n s zs v = (meaning v ≡ outcomeOf (length (some-rows n)) s) × (zs ≡ tableOf s (some-rows n))
+Filled n s zs v = ReadRows s (some-rows n) v zs
 
 says-so : (n : ℕ) (s : List ℕ) (zs : List Row) (v : Answer) → Filled n s zs v → meaning v ≡ outcomeOf n s
-says-so n s zs v e = e .0 ∙ ap (λ (m : ℕ). outcomeOf m s) (length-replicate n anyRow)
+says-so n s zs v e = e .says ∙ ap (λ (m : ℕ). outcomeOf m s) (length-replicate n anyRow)
 
 part-room : (n : ℕ) → n ≤ 1024 → Room R n
 part-room n within = (omega (arith, within), omega (arith, within))

@@ -1,25 +1,9 @@
--- What the code's answers and its row of bytes stand for.
+-- What only the code's shape needs: the bytes of a text so far, and those that are put behind them. Assumes nothing.
 use Prim.Native.Nat.{ℕ, _+_, _≤_}
 use mathlib.Core.Path.{_≡_}
 use mathlib.Core.List.{List, _++_}
 use lib.ListN.{length, take}
-use Rattle.thing_text.specs.Thing.{Written, leaves}
-pub use Rattle.thing_text.specs.declared.Put.{Put}
-pub use Rattle.thing_text.specs.declared.Put.the-variants.{Written as written, Short as short}
 pub use Rattle.thing_text.specs.declared.Words.{Words}
-
--- the lent buffer is short: 01's number is 5
-abbrev pub numberOf : Put → ℕ
-numberOf (written n) = 0
-numberOf short = 5
-
-abbrev pub countOf : Put → ℕ
-countOf (written n) = n
-countOf short = 0
-
--- the answer, and the lent buffer as it then is
-abbrev pub leavesBy : Put → List ℕ → Written
-leavesBy p buf = leaves (numberOf p) (countOf p) buf
 
 abbrev pub wordsOf : Words → List ℕ
 wordsOf w = take (w .count) (w .bytes)

@@ -1,4 +1,5 @@
--- What the code's table holds: for each byte, what eight shifts make of it on top of an empty register. Assumes nothing.
+-- What only the code's shape needs: what its table holds, for each byte what eight shifts make of it on top of an empty
+-- register. Assumes nothing.
 use mathlib.Core.List.{List, [], _∷_}
 use Prim.Native.Nat.{ℕ, zero, suc, _*_}
 use Rattle.crc.specs.Crc.{shifts}
