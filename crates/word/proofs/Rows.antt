@@ -1,53 +1,121 @@
 -- Laws of words as rows of a table. Assumes nothing.
 use mathlib.Core.Path.{_≡_, refl, sym, _∙_, ap}
-use mathlib.Core.Bool.{true, _&&_, cond}
+use mathlib.Core.Bool.{Bool, true, false, _&&_, cond}
 use mathlib.Core.List.{List, [], _++_}
 use Prim.Native.Nat.{ℕ, suc, _+_, _-_, _≤_, _<_}
 use native.Mathlib.Numerals.{add-one}
 use native.Mathlib.Omega.{arith}
 use lib.Dec.{eqb}
-use lib.ListN.{length, take, drop, getD, set, replicate, drop-of-length-le}
+use lib.ListN.{length, take, drop, getD, set, replicate, drop-of-length-le, length-set}
 use lib.Seq.{drop-cons, take-all, take-length, length-take-le, set-at, take-suc, append-snoc}
-use Rattle.word.specs.Word.{at, nowhere, padded, sameBytes, place}
+use Rattle.word.specs.Word.{Found, at, nowhere, padded, sameBytes, place}
 
-pub same-next : (a b : List ℕ) (i : ℕ) → i < length a → i < length b
-    → sameBytes (drop i a) (drop i b) ≡ (eqb (getD a i 0) (getD b i 0) && sameBytes (drop (i + 1) a) (drop (i + 1) b))
-unfolding sameBytes
-same-next a b i h g = rw (add-one i, drop-cons a i 0 h, drop-cons b i 0 g) refl
+-- ---- comparing two rows of 16 bytes
 
-pub same-end : (a b : List ℕ) (i : ℕ) → length a ≤ i → length b ≤ i → sameBytes (drop i a) (drop i b) ≡ true
+-- what was compared and what is left are alike where the rows are
+pub record Comparing (a b : List ℕ) (all : Bool) (i : ℕ) : Type 0 where
+  pub within : i ≤ 16
+  pub left : length a ≡ 16
+  pub right : length b ≡ 16
+  pub rest : (all && sameBytes (drop i a) (drop i b)) ≡ sameBytes a b
+
+-- one byte of two rows, behind what is known of the bytes before it
+next : (all : Bool) (a b : List ℕ) (i : ℕ) → i < length a → i < length b
+    → (all && sameBytes (drop i a) (drop i b))
+    ≡ ((all && eqb (getD a i 0) (getD b i 0)) && sameBytes (drop (i + 1) a) (drop (i + 1) b))
 unfolding sameBytes
-same-end a b i h g = rw (drop-of-length-le a h, drop-of-length-le b g) refl
+next true a b i h g = rw (add-one i, drop-cons a i 0 h, drop-cons b i 0 g) refl
+next false a b i h g = refl
+
+end : (all : Bool) (a b : List ℕ) (i : ℕ) → length a ≤ i → length b ≤ i
+    → (all && sameBytes (drop i a) (drop i b)) ≡ all
+unfolding sameBytes
+end true a b i h g = rw (drop-of-length-le a h, drop-of-length-le b g) refl
+end false a b i h g = refl
+
+pub one-more : {a b : List ℕ} {all : Bool} {i : ℕ} → Comparing a b all i → i < 16
+    → Comparing a b (all && eqb (getD a i 0) (getD b i 0)) (i + 1)
+one-more {a} {b} {all} {i} c h =
+    record {
+      within = omega arith;
+      left = c .left;
+      right = c .right;
+      rest = sym (next all a b i (omega (arith, c)) (omega (arith, c))) ∙ c .rest;
+    }
+
+pub compared : {a b : List ℕ} {all : Bool} {i : ℕ} → Comparing a b all i → 16 ≤ i → all ≡ sameBytes a b
+compared {a} {b} {all} {i} c h = sym (end all a b i (omega (arith, c)) (omega (arith, c))) ∙ c .rest
 
 -- ---- filling up with spaces
 
-pub pad-more : (w : List ℕ) (i : ℕ) → i < length w → i < 16
-    → set (take i w ++ replicate (16 - i) 32) i (getD w i 0) ≡ take (i + 1) w ++ replicate (16 - (i + 1)) 32
-pad-more w i h m =
+-- the first i bytes of a word, and spaces behind them
+abbrev filled : List ℕ → ℕ → List ℕ
+filled w i = take i w ++ replicate (16 - i) 32
+
+pub record Padding (w b : List ℕ) (i : ℕ) : Type 0 where
+  pub within : i ≤ length w
+  pub short : i ≤ 16
+  pub size : length b ≡ 16
+  pub so-far : b ≡ take i w ++ replicate (16 - i) 32
+
+one-byte : (w : List ℕ) (i : ℕ) → i < length w → i < 16 → set (filled w i) i (getD w i 0) ≡ filled w (i + 1)
+one-byte w i h m =
+    let spaces : List ℕ = replicate (16 - (i + 1)) 32 in
     let e : 16 - i ≡ suc (16 - (i + 1)) = omega arith in
     let l : length (take i w) ≡ i = length-take-le i w (omega arith) in
     ap (λ (n : ℕ). set (take i w ++ replicate n 32) i (getD w i 0)) e
-    ∙ set-at (take i w) 32 (replicate (16 - (i + 1)) 32) (getD w i 0) i l
-    ∙ sym (append-snoc (take i w) (getD w i 0) (replicate (16 - (i + 1)) 32))
-    ∙ ap (λ (x : List ℕ). x ++ replicate (16 - (i + 1)) 32) (sym (take-suc w i 0 h) ∙ ap (λ (n : ℕ). take n w) (sym (add-one i)))
+    ∙ set-at (take i w) 32 spaces (getD w i 0) i l
+    ∙ sym (append-snoc (take i w) (getD w i 0) spaces)
+    ∙ ap (λ (x : List ℕ). x ++ spaces) (sym (take-suc w i 0 h) ∙ ap (λ (n : ℕ). take n w) (sym (add-one i)))
 
-pub pad-full : (w : List ℕ) (i : ℕ) → i ≡ 16 → 16 ≤ length w → take i w ++ replicate (16 - i) 32 ≡ padded w
-unfolding padded
-pad-full w i e h =
-    let z : 16 - length w ≡ 0 = omega arith in
-    rw (e, z) refl
+pub put : {w b : List ℕ} {i : ℕ} → Padding w b i → i < length w → i < 16 → Padding w (set b i (getD w i 0)) (i + 1)
+put {w} {b} {i} p h m =
+    record {
+      within = omega arith;
+      short = omega arith;
+      size = simp length-set (p .size);
+      so-far = ap (λ (l : List ℕ). set l i (getD w i 0)) (p .so-far) ∙ one-byte w i h m;
+    }
 
-pub pad-end : (w : List ℕ) (i : ℕ) → i ≡ length w → i ≤ 16 → take i w ++ replicate (16 - i) 32 ≡ padded w
+-- a word that is cut, and one that ends
+pub full : {w b : List ℕ} {i : ℕ} → Padding w b i → 16 ≤ i → b ≡ padded w
 unfolding padded
-pad-end w i e h = rw (e, take-length w, take-all 16 w (omega arith)) refl
+full {w} {b} {i} p h =
+    let e : i ≡ 16 = omega (arith, p) in
+    let z : 16 - length w ≡ 0 = omega (arith, p) in
+    p .so-far ∙ rw (e, z) refl
+
+pub whole : {w b : List ℕ} {i : ℕ} → Padding w b i → length w ≤ i → b ≡ padded w
+unfolding padded
+whole {w} {b} {i} p h =
+    let e : i ≡ length w = omega (arith, p) in
+    p .so-far ∙ rw (e, take-length w, take-all 16 w (omega (arith, p))) refl
 
 -- ---- looking a row up
 
-pub place-next : (rows : List (List ℕ)) (i : ℕ) (key : List ℕ) → i < length rows
-    → place i (drop i rows) key ≡ cond (sameBytes (getD rows i []) key) (at i) (place (i + 1) (drop (i + 1) rows) key)
-unfolding place
-place-next rows i key h = ap (λ (l : List (List ℕ)). place i l key) (drop-cons rows i [] h) ∙ ap (λ (n : ℕ). cond (sameBytes (getD rows i []) key) (at i) (place (i + 1) (drop n rows) key)) (sym (add-one i))
+-- the row that is still to be found from i on is the one of the whole table
+pub record Seeking (rows : List (List ℕ)) (key : List ℕ) (i : ℕ) : Type 0 where
+  pub within : i ≤ length rows
+  pub rest : place i (drop i rows) key ≡ place 0 rows key
 
-pub place-end : (rows : List (List ℕ)) (i : ℕ) (key : List ℕ) → length rows ≤ i → place i (drop i rows) key ≡ nowhere
+place-next : (rows : List (List ℕ)) (i : ℕ) (key : List ℕ) → i < length rows
+    → place i (drop i rows) key
+    ≡ cond (sameBytes (getD rows i []) key) (at i) (place (i + 1) (drop (i + 1) rows) key)
 unfolding place
-place-end rows i key h = rw (drop-of-length-le rows h) refl
+place-next rows i key h =
+    let past : ℕ → Found = λ n. cond (sameBytes (getD rows i []) key) (at i) (place (i + 1) (drop n rows) key) in
+    rw (drop-cons rows i [] h) (ap past (sym (add-one i)))
+
+pub passed : {rows : List (List ℕ)} {key : List ℕ} {i : ℕ} → Seeking rows key i → i < length rows
+    → sameBytes (getD rows i []) key ≡ false → Seeking rows key (i + 1)
+passed {rows} {key} {i} s h f =
+    record { within = omega arith; rest = sym (place-next rows i key h ∙ simp f) ∙ s .rest }
+
+pub found : {rows : List (List ℕ)} {key : List ℕ} {i : ℕ} → Seeking rows key i → i < length rows
+    → sameBytes (getD rows i []) key ≡ true → at i ≡ place 0 rows key
+found {rows} {key} {i} s h t = sym (place-next rows i key h ∙ simp t) ∙ s .rest
+
+pub not-found : {rows : List (List ℕ)} {key : List ℕ} {i : ℕ} → Seeking rows key i → length rows ≤ i
+    → nowhere ≡ place 0 rows key
+unfolding place
+not-found {rows} {key} {i} s h = sym (rw (drop-of-length-le rows h) refl) ∙ s .rest

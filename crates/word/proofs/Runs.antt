@@ -11,17 +11,37 @@ use lib.Seq.{drop-cons}
 use borrow.Author.Tests.{eq-eqb, ne-eqb}
 use Rattle.word.specs.Word.{Class, Blank, Solid, Span, inClass, run, wordAt, skipped}
 
-pub run-more : (k : Class) (s : List ℕ) (i : ℕ) → i < length s → inClass k (getD s i 0) ≡ true → run k (drop i s) ≡ suc (run k (drop (i + 1) s))
+run-more : (k : Class) (s : List ℕ) (i : ℕ) → i < length s → inClass k (getD s i 0) ≡ true
+    → run k (drop i s) ≡ suc (run k (drop (i + 1) s))
 unfolding run
 run-more k s i h t = rw (add-one i, drop-cons s i 0 h) (simp t)
 
-pub run-stop : (k : Class) (s : List ℕ) (i : ℕ) → i < length s → inClass k (getD s i 0) ≡ false → run k (drop i s) ≡ 0
+run-stop : (k : Class) (s : List ℕ) (i : ℕ) → i < length s → inClass k (getD s i 0) ≡ false → run k (drop i s) ≡ 0
 unfolding run
 run-stop k s i h t = rw (drop-cons s i 0 h) (simp t)
 
 pub run-end : (k : Class) (s : List ℕ) (i : ℕ) → length s ≤ i → run k (drop i s) ≡ 0
 unfolding run
 run-end k s i h = rw (drop-of-length-le s h) refl
+
+-- ---- a run from `at` that has come to i
+
+-- where it stops, seen from i, is where it stops
+pub record Running (k : Class) (s : List ℕ) (at i : ℕ) : Type 0 where
+  pub same : i + run k (drop i s) ≡ at + run k (drop at s)
+
+pub goes-on : {k : Class} {s : List ℕ} {at i : ℕ} → Running k s at i → i < length s → inClass k (getD s i 0) ≡ true
+    → Running k s at (i + 1)
+goes-on {k} {s} {at} {i} r h t = record { same = omega (arith, r, run-more k s i h t) }
+
+pub stops : {k : Class} {s : List ℕ} {at i : ℕ} → Running k s at i → i < length s → inClass k (getD s i 0) ≡ false
+    → i ≡ at + run k (drop at s)
+stops {k} {s} {at} {i} r h t = omega (arith, r, run-stop k s i h t)
+
+pub ends : {k : Class} {s : List ℕ} {at i : ℕ} → Running k s at i → length s ≤ i → i ≡ at + run k (drop at s)
+ends {k} {s} {at} {i} r h = omega (arith, r, run-end k s i h)
+
+-- ---- words
 
 pub run-le : (k : Class) (s : List ℕ) → run k s ≤ length s
 unfolding run
@@ -33,7 +53,8 @@ run-le k (c ∷ s) = either (inClass k c) (run-le k s)
     either false h = omega arith
 
 -- a word stands inside its line
-pub inside : (w : Span) (s : List ℕ) (i : ℕ) → w ≡ wordAt s i → i ≤ length s → (w .start ≤ w .end) × (w .end ≤ length s)
+pub inside : (w : Span) (s : List ℕ) (i : ℕ) → w ≡ wordAt s i → i ≤ length s
+    → (w .start ≤ w .end) × (w .end ≤ length s)
 unfolding wordAt
 inside w s i e h =
     let f : ℕ = i + run Blank (drop i s) in
@@ -45,7 +66,8 @@ inside w s i e h =
 
 -- ---- lines that are skipped
 
-pub skip-some : (s : List ℕ) (i : ℕ) → i ≡ 0 + run Blank (drop 0 s) → i < length s → eqb (getD s i 0) 35 ≡ skipped s
+pub skip-some : (s : List ℕ) (i : ℕ) → i ≡ 0 + run Blank (drop 0 s) → i < length s
+    → eqb (getD s i 0) 35 ≡ skipped s
 unfolding skipped
 skip-some s i e h =
     let z : run Blank s ≡ i = omega arith in

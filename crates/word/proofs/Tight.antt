@@ -4,9 +4,11 @@ use mathlib.Core.Bool.{Bool}
 use mathlib.Core.List.{List}
 use Prim.Native.Nat.{ℕ, _+_}
 use lib.ListN.{drop}
-use Rattle.word.specs.Word.{Class, Span, Found, TypeName, Small, run, wordAt, skipped, nameForm, readType, smallOf, padded, seek}
+use Rattle.word.specs.Word.{Class, Span, Found, TypeName, Small, run, wordAt, skipped, nameForm}
+use Rattle.word.specs.Word.{readType, smallOf, padded, seek}
 
-pub only-run-from : (s : List ℕ) (i : ℕ) (k : Class) (r r' : ℕ) → r ≡ i + run k (drop i s) → r' ≡ i + run k (drop i s) → r ≡ r'
+pub only-run-from : (s : List ℕ) (i : ℕ) (k : Class) (r r' : ℕ) → r ≡ i + run k (drop i s) → r' ≡ i + run k (drop i s)
+    → r ≡ r'
 only-run-from s i k r r' e e' = e ∙ sym e'
 
 pub only-word-at : (s : List ℕ) (i : ℕ) (r r' : Span) → r ≡ wordAt s i → r' ≡ wordAt s i → r ≡ r'
@@ -27,5 +29,6 @@ only-read-small word r r' e e' = e ∙ sym e'
 pub only-pad : (word : List ℕ) (r r' : List ℕ) → r ≡ padded word → r' ≡ padded word → r ≡ r'
 only-pad word r r' e e' = e ∙ sym e'
 
-pub only-seek-word : (rows : List (List ℕ)) (word : List ℕ) (r r' : Found) → r ≡ seek rows word → r' ≡ seek rows word → r ≡ r'
+pub only-seek-word : (rows : List (List ℕ)) (word : List ℕ) (r r' : Found)
+    → r ≡ seek rows word → r' ≡ seek rows word → r ≡ r'
 only-seek-word rows word r r' e e' = e ∙ sym e'

@@ -49,7 +49,9 @@ nameForm w = leb 1 (length w) && (leb (length w) 16 && (starts (getD w 0 0) && e
 
 -- two lower-case letters, the first times 256 and the second
 unfoldable pub readType : List ℕ → TypeName
-readType w = cond (eqb (length w) 2 && (lower (getD w 0 0) && lower (getD w 1 0))) (letters (getD w 0 0 * 256 + getD w 1 0)) noType
+readType w =
+    cond (eqb (length w) 2 && (lower (getD w 0 0) && lower (getD w 1 0)))
+    (letters (getD w 0 0 * 256 + getD w 1 0)) noType
 
 -- digits 0 to 255, in any count
 unfoldable pub readSmall : ℕ → List ℕ → Small

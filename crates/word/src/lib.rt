@@ -2,7 +2,8 @@
 ghost use mathlib.Core.Path.{_≡_};
 ghost use Prim.Native.Nat.{_+_, _<_};
 ghost use lib.ListN.{drop};
-ghost use Rattle.word.specs.Word.{inClass, run, wordAt, skipped, nameForm, readType, smallOf, padded, sameBytes, place, seek};
+ghost use Rattle.word.specs.Word.{inClass, run, wordAt, skipped, nameForm, readType, smallOf};
+ghost use Rattle.word.specs.Word.{padded, sameBytes, place, seek};
 
 pub enum Class {
     Blank,
@@ -153,17 +154,17 @@ pub fn pad(word: &[u8]) -> [u8; 16]
     b
 }
 
+// Without a way out before the end, so that the sixteen bytes are compared at once.
 fn same(a: [u8; 16], b: [u8; 16]) -> bool
     ensures { λ r. ⌜ r ≡ sameBytes a b ⌝ }
 {
+    let mut all = true;
     let mut i: usize = 0;
     while i < WIDTH {
-        if a[i] != b[i] {
-            return false;
-        }
+        all = all & (a[i] == b[i]);
         i += 1;
     }
-    true
+    all
 }
 
 fn find(rows: &[[u8; 16]], key: [u8; 16]) -> Found

@@ -1,21 +1,20 @@
-use mathlib.Core.Path.{_≡_, refl, sym, _∙_}
-use Prim.Native.Nat.{_-_, _≤_}
-use native.Mathlib.Omega.{arith}
+-- `word::find` goes row by row. Assumes nothing.
 use borrow.Author.Needs.{needs}
-use lib.ListN.{length, drop}
-use Rattle.word.specs.Word.{place}
-use Rattle.word.proofs.Rows as L
+use lib.ListN.{length}
+use mathlib.Core.Path.{refl, sym, _∙_}
+use Prim.Native.Nat.{_-_}
 use Rattle.word.proofs.find.Statement.{statement}
 use Rattle.word.proofs.find.Tie as tie
+use Rattle.word.proofs.Rows.{Seeking, passed, found, not-found}
 
 abbrev Inv-loop : tie.InvT-loop
-Inv-loop rows key i₀ i = (i ≤ length rows) × (place i (drop i rows) key ≡ place 0 rows key)
+Inv-loop rows key i₀ i = Seeking rows key i
 
 abbrev μ-loop : tie.MeasureT-loop
 μ-loop rows key i₀ i = length rows - i
 
 loop-holds : tie.Need-loop-holds Inv-loop μ-loop
-loop-holds c = (omega arith, refl)
+loop-holds c = record { within = search needs; rest = refl }
 
 mul-row : tie.Need-mul-row Inv-loop μ-loop
 mul-row c = search needs
@@ -27,7 +26,10 @@ same-requires : tie.Need-same-requires Inv-loop μ-loop
 same-requires c κs = search needs
 
 returns : tie.Need-returns Inv-loop μ-loop
-returns c = sym (L.place-next (c .before .before .before .before .before .args .rows .now) (c .before .before .before .before .loop .i) (c .before .before .before .before .before .args .key) (c .before .before .before .loop-test .taken) ∙ simp (sym (c .before .same .ensures) ∙ c .if1 .taken)) ∙ c .before .before .before .before .loop .inv .1
+returns c =
+    let row = c .before .before in
+    found (row .before .before .loop .inv) (row .before .loop-test .taken)
+    (sym (c .before .same .ensures) ∙ c .if1 .taken)
 
 add-i : tie.Need-add-i Inv-loop μ-loop
 add-i c = search needs
@@ -36,10 +38,13 @@ loop-less : tie.Need-loop-less Inv-loop μ-loop
 loop-less c = search needs
 
 loop-again : tie.Need-loop-again Inv-loop μ-loop
-loop-again c = (omega arith, sym (L.place-next (c .before .before .before .before .before .args .rows .now) (c .before .before .before .before .loop .i) (c .before .before .before .before .before .args .key) (c .before .before .before .loop-test .taken) ∙ simp (sym (c .before .same .ensures) ∙ c .if1 .left)) ∙ c .before .before .before .before .loop .inv .1)
+loop-again c =
+    let row = c .before .before in
+    passed (row .before .before .loop .inv) (row .before .loop-test .taken)
+    (sym (c .before .same .ensures) ∙ c .if1 .left)
 
 returns-2 : tie.Need-returns-2 Inv-loop μ-loop
-returns-2 c = sym (L.place-end (c .before .before .args .rows .now) (c .before .loop .i) (c .before .before .args .key) (omega arith)) ∙ c .before .loop .inv .1
+returns-2 c = not-found (c .before .loop .inv) (c .loop-test .left)
 
 pub find-spec : {M : Type 1} → statement M
 find-spec =
