@@ -1,4 +1,5 @@
--- What `_` leaves of a match on an argument: where a function says d of each variant whose tag is left, it says d. Assumes nothing.
+-- What `_` leaves of a match on an argument: where a function says d of each variant whose tag is left, it says d.
+-- Assumes nothing.
 use mathlib.Core.Path.{_≡_}
 use mathlib.Core.List.{List}
 use Prim.Native.Nat.{ℕ}

@@ -6,15 +6,17 @@ use native.Mathlib.Omega.{arith}
 use lib.ListN.{getD}
 use lib.Seq.{getD-drop}
 use Rattle.value.specs.declared.Comparison.{Comparison}
-use Rattle.value.specs.declared.Comparison.the-variants.{Equal as equal, Unequal as unequal, Less as less, AtMost as atMost, Greater as greater, AtLeast as atLeast}
+use Rattle.value.specs.declared.Comparison.the-variants as C
 use Rattle.argument.specs.Argument.{comparisonAt}
 
 same-tail : (d : Comparison) (m : ℕ) → d ≡ getD (d ∷ []) m d
 same-tail d zero = refl
 same-tail d (suc m) = refl
 
-pub last-comparison : (k : ℕ) → 5 ≤ k → atLeast ≡ comparisonAt k
+pub last-comparison : (k : ℕ) → 5 ≤ k → C.AtLeast ≡ comparisonAt k
 unfolding comparisonAt
 last-comparison k h =
     let e : 5 + (k - 5) ≡ k = omega arith in
-    same-tail atLeast (k - 5) ∙ getD-drop 5 (equal ∷ unequal ∷ less ∷ atMost ∷ greater ∷ atLeast ∷ []) (k - 5) atLeast ∙ ap comparisonAt e
+    same-tail C.AtLeast (k - 5)
+    ∙ getD-drop 5 (C.Equal ∷ C.Unequal ∷ C.Less ∷ C.AtMost ∷ C.Greater ∷ C.AtLeast ∷ []) (k - 5) C.AtLeast
+    ∙ ap comparisonAt e

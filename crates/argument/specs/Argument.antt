@@ -8,7 +8,7 @@ use lib.Dec.{ltb, eqb}
 use lib.ListN.{length, drop, getD}
 use Rattle.text.specs.Cut.{before}
 use Rattle.value.specs.declared.Comparison.{Comparison}
-use Rattle.value.specs.declared.Comparison.the-variants.{Equal as equal, Unequal as unequal, Less as less, AtMost as atMost, Greater as greater, AtLeast as atLeast}
+use Rattle.value.specs.declared.Comparison.the-variants as C
 use Rattle.value.specs.declared.Literal.{Literal}
 use Rattle.value.specs.declared.Literal.the-variants.{Value as good, Bad as bad}
 use Rattle.value.specs.Literal.{literal as readLiteral}
@@ -22,7 +22,7 @@ use Rattle.word.specs.declared.Small.{Small}
 use Rattle.word.specs.declared.Small.the-variants.{Number as number, Bad as noNumber}
 use Rattle.text.specs.Bytes.{byte, ascii}
 use Rattle.word.specs.Word.{run, wordAt, part, nameForm, readType, smallOf as readNumber, padded, seek}
-use Rattle.argument.specs.Refusal.{badArguments, undeclared, declaredTwice, tooManyNames}
+use Rattle.argument.specs.declared.Refusal.the-variants as R
 pub use Rattle.argument.specs.declared.Form.{Form}
 pub use Rattle.argument.specs.declared.Form.the-variants as F
 pub use Rattle.argument.specs.declared.Argument.{Argument}
@@ -32,65 +32,67 @@ pub use Rattle.argument.specs.declared.Said.{Said}
 -- ---- what a word says where a form is asked; a missing word is an empty one
 
 unfoldable pub emptySaid : List ℕ → Argument
-emptySaid w = cond (eqb (length w) 0) A.Nothing (A.Wrong badArguments)
+emptySaid w = cond (eqb (length w) 0) A.Nothing (A.Wrong R.BadArguments)
 
 abbrev pub known : Found → Argument
 known (at i) = A.Name i
-known nowhere = A.Wrong undeclared
+known nowhere = A.Wrong R.Undeclared
 
 -- a name that was declared on an earlier line
 unfoldable pub nameSaid : List (List ℕ) → List ℕ → Argument
-nameSaid names w = cond (nameForm w) (known (seek names w)) (A.Wrong badArguments)
+nameSaid names w = cond (nameForm w) (known (seek names w)) (A.Wrong R.BadArguments)
 
 abbrev pub fresh : ℕ → Found → Argument
-fresh n (at i) = A.Wrong declaredTwice
-fresh n nowhere = cond (ltb n 32) (A.Name n) (A.Wrong tooManyNames)
+fresh n (at i) = A.Wrong R.DeclaredTwice
+fresh n nowhere = cond (ltb n 32) (A.Name n) (A.Wrong R.TooManyNames)
 
 -- a name that is new, with its number
 unfoldable pub newSaid : List (List ℕ) → List ℕ → Argument
-newSaid names w = cond (nameForm w) (fresh (length names) (seek names w)) (A.Wrong badArguments)
+newSaid names w = cond (nameForm w) (fresh (length names) (seek names w)) (A.Wrong R.BadArguments)
 
 abbrev pub valuedBy : Literal → Argument
 valuedBy (good v i) = A.Literal v
-valuedBy (bad i) = A.Wrong badArguments
+valuedBy (bad i) = A.Wrong R.BadArguments
 
 unfoldable pub literalSaid : List ℕ → Argument
 literalSaid w = valuedBy (readLiteral w)
 
 abbrev pub knownOperand : Found → Argument
 knownOperand (at i) = A.Operand (name i)
-knownOperand nowhere = A.Wrong undeclared
+knownOperand nowhere = A.Wrong R.Undeclared
 
 abbrev pub literalOperand : Literal → Argument
 literalOperand (good v i) = A.Operand (literal v)
-literalOperand (bad i) = A.Wrong badArguments
+literalOperand (bad i) = A.Wrong R.BadArguments
 
 unfoldable pub operandSaid : List (List ℕ) → List ℕ → Argument
 operandSaid names w = cond (nameForm w) (knownOperand (seek names w)) (literalOperand (readLiteral w))
 
 abbrev pub letteredBy : TypeName → Argument
 letteredBy (letters t) = A.Letters t
-letteredBy noType = A.Wrong badArguments
+letteredBy noType = A.Wrong R.BadArguments
 
 unfoldable pub typeSaid : List ℕ → Argument
 typeSaid w = letteredBy (readType w)
 
 abbrev pub numberedBy : Small → Argument
 numberedBy (number n) = A.Number n
-numberedBy noNumber = A.Wrong badArguments
+numberedBy noNumber = A.Wrong R.BadArguments
 
 unfoldable pub numberSaid : List ℕ → Argument
 numberSaid w = numberedBy (readNumber w)
 
 unfoldable pub signs : List (List ℕ)
-signs = padded (ascii "==") ∷ padded (ascii "!=") ∷ padded (ascii "<") ∷ padded (ascii "<=") ∷ padded (ascii ">") ∷ padded (ascii ">=") ∷ []
+signs =
+    padded (ascii "==") ∷ padded (ascii "!=") ∷ padded (ascii "<") ∷ padded (ascii "<=")
+    ∷ padded (ascii ">") ∷ padded (ascii ">=") ∷ []
 
 unfoldable pub comparisonAt : ℕ → Comparison
-comparisonAt i = getD (equal ∷ unequal ∷ less ∷ atMost ∷ greater ∷ atLeast ∷ []) i atLeast
+comparisonAt i = getD (C.Equal ∷ C.Unequal ∷ C.Less ∷ C.AtMost ∷ C.Greater ∷ C.AtLeast ∷ []) i C.AtLeast
 
 abbrev pub comparedBy : Found → Argument
 comparedBy (at i) = A.Comparison (comparisonAt i)
-comparedBy nowhere = A.Wrong badArguments
+comparedBy nowhere = A.Wrong R.BadArguments
 
 unfoldable pub comparisonSaid : List ℕ → Argument
 comparisonSaid w = comparedBy (seek signs w)
@@ -104,7 +106,7 @@ said F.Literal names w = literalSaid w
 said F.Letters names w = typeSaid w
 said F.Number names w = numberSaid w
 said F.Comparison names w = comparisonSaid w
-said F.Text names w = A.Wrong badArguments
+said F.Text names w = A.Wrong R.BadArguments
 
 -- ---- the text of send_string: a quote, bytes without quote, a quote
 
@@ -113,14 +115,16 @@ stopped x n = record { argument = x; stop = n }
 
 -- a text that begins at f and whose quote is at q
 abbrev pub closedAt : List ℕ → ℕ → ℕ → Said
-closedAt line f q = cond (ltb q (length line)) (stopped (A.Text (record { start = f; end = q })) (q + 1)) (stopped (A.Wrong badArguments) (length line))
+closedAt line f q =
+    cond (ltb q (length line))
+    (stopped (A.Text (record { start = f; end = q })) (q + 1)) (stopped (A.Wrong R.BadArguments) (length line))
 
 abbrev pub afterQuote : List ℕ → ℕ → Said
 afterQuote line f = closedAt line f (f + before (byte "\"") (drop f line))
 
 abbrev pub textFrom : List ℕ → ℕ → Said
 textFrom line f =
-    cond (eqb (getD line f 0) (byte "\"")) (afterQuote line (f + 1)) (stopped (A.Wrong badArguments) (length line))
+    cond (eqb (getD line f 0) (byte "\"")) (afterQuote line (f + 1)) (stopped (A.Wrong R.BadArguments) (length line))
 
 unfoldable pub textAt : List ℕ → ℕ → Said
 textAt line i = textFrom line (i + run Blank (drop i line))

@@ -1,15 +1,15 @@
 -- 01, "The checker": the numbers of form, 10 to 18.
 use Prim.Native.Nat.{ℕ}
 pub use Rattle.argument.specs.declared.Refusal.{Refusal}
-pub use Rattle.argument.specs.declared.Refusal.the-variants.{TooLong as tooLong, NoEnd as noEnd, LongLine as longLine, TooManyItems as tooManyItems, UnknownCommand as unknownCommand, BadArguments as badArguments, Undeclared as undeclared, DeclaredTwice as declaredTwice, TooManyNames as tooManyNames}
+use Rattle.argument.specs.declared.Refusal.the-variants as R
 
 unfoldable pub numberOf : Refusal → ℕ
-numberOf tooLong = 10
-numberOf noEnd = 11
-numberOf longLine = 12
-numberOf tooManyItems = 13
-numberOf unknownCommand = 14
-numberOf badArguments = 15
-numberOf undeclared = 16
-numberOf declaredTwice = 17
-numberOf tooManyNames = 18
+numberOf R.TooLong = 10
+numberOf R.NoEnd = 11
+numberOf R.LongLine = 12
+numberOf R.TooManyItems = 13
+numberOf R.UnknownCommand = 14
+numberOf R.BadArguments = 15
+numberOf R.Undeclared = 16
+numberOf R.DeclaredTwice = 17
+numberOf R.TooManyNames = 18

@@ -14,7 +14,17 @@ abbrev others : List ℕ
 others = 0 ∷ 1 ∷ 2 ∷ 3 ∷ 4 ∷ 5 ∷ 7 ∷ 8 ∷ []
 
 rest : Each comparisonOf equal others
-rest = (λ k. refl, λ y k. refl, λ y k. refl, λ y k. refl, λ y k. refl, λ y k. refl, λ y k. absurd (miss others 6 tt k), λ y k. refl, λ y k. refl)
+rest = (
+  λ k. refl,
+  λ y k. refl,
+  λ y k. refl,
+  λ y k. refl,
+  λ y k. refl,
+  λ y k. refl,
+  λ y k. absurd (miss others 6 tt k),
+  λ y k. refl,
+  λ y k. refl,
+)
 
 enum-known-x : tie.Need-enum-known-x
 enum-known-x c = search needs

@@ -22,11 +22,13 @@ enum-told c = search needs
 
 returns : tie.Need-returns
 unfolding comparisonSaid signs padded
-returns c = simp (c .comparison-at .ensures, sym (c .before .before .before .before .seek-word .ensures) ∙ c .before .before .i .given .1, c .before .before .before .before .before .seek-word-arg .given .1)
+returns c =
+    let found = c .before .before .before .before in
+    simp (c .comparison-at .ensures, sym (found .seek-word .ensures) ∙ c .before .before .i .given .1)
 
 returns-2 : tie.Need-returns-2
 unfolding comparisonSaid signs padded
-returns-2 c = simp (sym (c .before .before .seek-word .ensures) ∙ c .enum-told .given .1, c .before .before .before .seek-word-arg .given .1)
+returns-2 c = simp (sym (c .before .before .seek-word .ensures) ∙ c .enum-told .given .1)
 
 pub comparison-said-spec : {M : Type 1} → statement M
 comparison-said-spec =

@@ -13,7 +13,17 @@ abbrev others : List ℕ
 others = 0 ∷ 2 ∷ 3 ∷ 4 ∷ 5 ∷ 6 ∷ 7 ∷ 8 ∷ []
 
 rest : Each nameOf 0 others
-rest = (λ k. refl, λ y k. absurd (miss others 1 tt k), λ y k. refl, λ y k. refl, λ y k. refl, λ y k. refl, λ y k. refl, λ y k. refl, λ y k. refl)
+rest = (
+  λ k. refl,
+  λ y k. absurd (miss others 1 tt k),
+  λ y k. refl,
+  λ y k. refl,
+  λ y k. refl,
+  λ y k. refl,
+  λ y k. refl,
+  λ y k. refl,
+  λ y k. refl,
+)
 
 enum-known-x : tie.Need-enum-known-x
 enum-known-x c = search needs

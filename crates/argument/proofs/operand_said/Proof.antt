@@ -1,8 +1,20 @@
-use mathlib.Core.Path.{sym, _∙_}
+use mathlib.Core.Bool.{true, false}
+use mathlib.Core.Path.{_≡_, sym, _∙_}
+use Rattle.word.specs.Word.{nameForm}
 use Rattle.argument.specs.Argument.{operandSaid}
 use borrow.Author.Needs.{needs}
 use Rattle.argument.proofs.operand_said.Statement.{statement}
 use Rattle.argument.proofs.operand_said.Tie as tie
+
+-- with a word that has the form of a name
+module _ (c : tie.Then1) where
+  named : nameForm (c .before .before .before .args .word .now) ≡ true
+  named = sym (c .before .is-name .ensures) ∙ c .if1 .taken
+
+-- with a word that has not the form of a name
+module _ (c : tie.Else1) where
+  not-named : nameForm (c .before .before .before .args .word .now) ≡ false
+  not-named = sym (c .before .is-name .ensures) ∙ c .if1 .left
 
 is-name-requires : tie.Need-is-name-requires
 is-name-requires c κs = search needs
@@ -18,11 +30,15 @@ enum-told c = search needs
 
 returns : tie.Need-returns
 unfolding operandSaid
-returns c = simp (sym (c .before .before .before .seek-word .ensures) ∙ c .before .i .given .1, sym (c .before .before .before .before .before .is-name .ensures) ∙ c .before .before .before .before .if1 .taken)
+returns c =
+    let found = c .before .before .before in
+    simp (named (found .before), sym (found .seek-word .ensures) ∙ c .before .i .given .1)
 
 returns-2 : tie.Need-returns-2
 unfolding operandSaid
-returns-2 c = simp (sym (c .before .before .seek-word .ensures) ∙ c .enum-told .given .1, sym (c .before .before .before .before .is-name .ensures) ∙ c .before .before .before .if1 .taken)
+returns-2 c =
+    let found = c .before .before in
+    simp (named (found .before), sym (found .seek-word .ensures) ∙ c .enum-told .given .1)
 
 read-literal-requires : tie.Need-read-literal-requires
 read-literal-requires c κs = search needs
@@ -35,11 +51,15 @@ enum-told-2 c = search needs
 
 returns-3 : tie.Need-returns-3
 unfolding operandSaid
-returns-3 c = simp (sym (c .before .before .before .read-literal .ensures) ∙ c .before .v .given .1, sym (c .before .before .before .before .before .is-name .ensures) ∙ c .before .before .before .before .if1 .left)
+returns-3 c =
+    let found = c .before .before .before in
+    simp (not-named (found .before), sym (found .read-literal .ensures) ∙ c .before .v .given .1)
 
 returns-4 : tie.Need-returns-4
 unfolding operandSaid
-returns-4 c = simp (sym (c .before .before .read-literal .ensures) ∙ c .enum-told2 .given .1, sym (c .before .before .before .before .is-name .ensures) ∙ c .before .before .before .if1 .left)
+returns-4 c =
+    let found = c .before .before in
+    simp (not-named (found .before), sym (found .read-literal .ensures) ∙ c .enum-told2 .given .1)
 
 pub operand-said-spec : {M : Type 1} → statement M
 operand-said-spec =

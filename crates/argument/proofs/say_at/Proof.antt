@@ -1,11 +1,35 @@
-use mathlib.Core.Path.{sym, _∙_}
-use native.Mathlib.Omega.{arith}
-use Rattle.word.proofs.Runs.{inside}
-use Rattle.argument.specs.Argument.{saidAt}
-use Rattle.argument.proofs.Past as L
+-- `argument::say_at` reads a text from its place, and any other argument from the next word. Assumes nothing.
 use borrow.Author.Needs.{needs}
+use lib.ListN.{length}
+use mathlib.Core.Bool.{false}
+use mathlib.Core.List.{List}
+use mathlib.Core.Path.{_≡_, sym, _∙_}
+use native.Mathlib.Omega.{arith}
+use Prim.Native.Nat.{ℕ, _≤_}
+use Rattle.argument.proofs.Past.{said-past}
 use Rattle.argument.proofs.say_at.Statement.{statement}
 use Rattle.argument.proofs.say_at.Tie as tie
+use Rattle.argument.specs.Argument.{isText, saidAt}
+use Rattle.word.proofs.Runs.{inside}
+
+-- where no text is asked for
+module _ (c : tie.Else1) where
+  abbrev line : List ℕ
+  line = c .before .before .before .args .line .now
+
+  abbrev from : ℕ
+  from = c .before .before .before .args .at
+
+  no-text : isText (c .before .before .before .args .form) ≡ false
+  no-text = sym (c .before .is-text .ensures) ∙ c .if1 .left
+
+-- with the word that begins there
+module _ (c : tie.After-word-at) where
+  abbrev asked : tie.Else1
+  asked = c .before .before
+
+  stands : (c .word-at .result .start ≤ c .word-at .result .end) × (c .word-at .result .end ≤ length (line asked))
+  stands = inside (c .word-at .result) (line asked) (from asked) (c .word-at .ensures) (c .before .if2 .left)
 
 is-text-requires : tie.Need-is-text-requires
 is-text-requires c κs = search needs
@@ -15,10 +39,12 @@ text-at-requires c κs = search needs
 
 returns : tie.Need-returns
 unfolding saidAt
-returns c = record {
-  says = simp (sym (c .before .before .is-text .ensures) ∙ c .before .if1 .taken, sym (c .text-at .ensures .0));
-  inside = λ h. c .text-at .ensures .1;
-}
+returns c =
+    let asked-text = sym (c .before .before .is-text .ensures) ∙ c .before .if1 .taken in
+    record {
+      says = simp (asked-text, sym (c .text-at .ensures .0));
+      inside = λ h. c .text-at .ensures .1;
+    }
 
 sub-say : tie.Need-sub-say
 sub-say c = search needs
@@ -35,12 +61,9 @@ say-requires c κs = search needs
 returns-2 : tie.Need-returns-2
 unfolding saidAt
 returns-2 c =
-    let tested = c .before .before .before in
-    let a = tested .before .before .before .args in
+    let d = c .before .before .before in
     record {
-      says = L.said-past (a .names .now) (a .line .now) (a .form) (a .at) _
-          (sym (tested .before .is-text .ensures) ∙ tested .if1 .left) (c .before .before .if2 .taken)
-          (c .say .ensures);
+      says = said-past _ (line d) _ (from d) _ (no-text d) (omega arith) (c .say .ensures);
       inside = λ h. absurd (omega (arith, h));
     }
 
@@ -48,13 +71,13 @@ word-at-requires : tie.Need-word-at-requires
 word-at-requires c κs = search needs
 
 sub-say-2 : tie.Need-sub-say-2
-sub-say-2 c = inside (c .word-at .result) (c .before .before .before .before .before .args .line .now) (c .before .before .before .before .before .args .at) (c .word-at .ensures) (c .before .if2 .left) .0
+sub-say-2 c = stands c .0
 
 part-say-start-2 : tie.Need-part-say-start-2
-part-say-start-2 c = omega (arith, inside (c .word-at .result) (c .before .before .before .before .before .args .line .now) (c .before .before .before .before .before .args .at) (c .word-at .ensures) (c .before .if2 .left) .0, inside (c .word-at .result) (c .before .before .before .before .before .args .line .now) (c .before .before .before .before .before .args .at) (c .word-at .ensures) (c .before .if2 .left) .1)
+part-say-start-2 c = omega (arith, stands c)
 
 part-say-end-2 : tie.Need-part-say-end-2
-part-say-end-2 c = omega (arith, inside (c .word-at .result) (c .before .before .before .before .before .args .line .now) (c .before .before .before .before .before .args .at) (c .word-at .ensures) (c .before .if2 .left) .0, inside (c .word-at .result) (c .before .before .before .before .before .args .line .now) (c .before .before .before .before .before .args .at) (c .word-at .ensures) (c .before .if2 .left) .1)
+part-say-end-2 c = omega (arith, stands c)
 
 say-requires-2 : tie.Need-say-requires-2
 say-requires-2 c κs = search needs
@@ -63,16 +86,9 @@ returns-3 : tie.Need-returns-3
 unfolding saidAt
 returns-3 c =
     let found = c .before .before in
-    let tested = found .before .before in
-    let a = tested .before .before .before .args in
     record {
-      says = simp (
-        sym (tested .before .is-text .ensures) ∙ tested .if1 .left,
-        sym (found .word-at .ensures),
-        sym (c .say2 .ensures),
-      );
-      inside = λ h. inside (found .word-at .result) (a .line .now) (a .at) (found .word-at .ensures)
-          (found .before .if2 .left) .1;
+      says = simp (no-text (asked found), sym (found .word-at .ensures), sym (c .say2 .ensures));
+      inside = λ h. stands found .1;
     }
 
 pub say-at-spec : {M : Type 1} → statement M

@@ -13,7 +13,17 @@ abbrev others : List ℕ
 others = 0 ∷ 1 ∷ 2 ∷ 3 ∷ 4 ∷ 5 ∷ 6 ∷ 8 ∷ []
 
 rest : Each textOf (record { start = 0; end = 0 }) others
-rest = (λ k. refl, λ y k. refl, λ y k. refl, λ y k. refl, λ y k. refl, λ y k. refl, λ y k. refl, λ y k. absurd (miss others 7 tt k), λ y k. refl)
+rest = (
+  λ k. refl,
+  λ y k. refl,
+  λ y k. refl,
+  λ y k. refl,
+  λ y k. refl,
+  λ y k. refl,
+  λ y k. refl,
+  λ y k. absurd (miss others 7 tt k),
+  λ y k. refl,
+)
 
 enum-known-x : tie.Need-enum-known-x
 enum-known-x c = search needs

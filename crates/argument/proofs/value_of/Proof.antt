@@ -15,7 +15,17 @@ abbrev others : List ℕ
 others = 0 ∷ 1 ∷ 2 ∷ 4 ∷ 5 ∷ 6 ∷ 7 ∷ 8 ∷ []
 
 rest : Each valueOf (whole (pos 0)) others
-rest = (λ k. refl, λ y k. refl, λ y k. refl, λ y k. absurd (miss others 3 tt k), λ y k. refl, λ y k. refl, λ y k. refl, λ y k. refl, λ y k. refl)
+rest = (
+  λ k. refl,
+  λ y k. refl,
+  λ y k. refl,
+  λ y k. absurd (miss others 3 tt k),
+  λ y k. refl,
+  λ y k. refl,
+  λ y k. refl,
+  λ y k. refl,
+  λ y k. refl,
+)
 
 enum-known-x : tie.Need-enum-known-x
 enum-known-x c = search needs

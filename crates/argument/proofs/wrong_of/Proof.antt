@@ -18,7 +18,17 @@ abbrev wrongNumber : Argument → ℕ
 wrongNumber x = numbered (wrongOf x)
 
 rest : Each wrongNumber 19 others
-rest = (λ k. refl, λ y k. refl, λ y k. refl, λ y k. refl, λ y k. refl, λ y k. refl, λ y k. refl, λ y k. refl, λ y k. absurd (miss others 8 tt k))
+rest = (
+  λ k. refl,
+  λ y k. refl,
+  λ y k. refl,
+  λ y k. refl,
+  λ y k. refl,
+  λ y k. refl,
+  λ y k. refl,
+  λ y k. refl,
+  λ y k. absurd (miss others 8 tt k),
+)
 
 enum-known-x : tie.Need-enum-known-x
 enum-known-x c = search needs
