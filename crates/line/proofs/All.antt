@@ -1,50 +1,81 @@
--- Seven words read in a row are the arguments. Assumes nothing.
-use mathlib.Core.Path.{_≡_, _∙_, ap, ap₂}
+-- The words read in a row are the arguments. Assumes nothing.
+use borrow.Author.Tests.{eqb-true}
+use lib.Dec.{eqb}
+use lib.ListN.{length, getD}
+use mathlib.Core.Bool.{Bool, true, _&&_}
 use mathlib.Core.List.{List}
-use Prim.Native.Nat.{ℕ}
-use lib.ListN.{getD}
-use Rattle.argument.specs.declared.Form.{Form}
+use mathlib.Core.Path.{_≡_, refl, _∙_}
+use native.Mathlib.Omega.{arith}
+use Prim.Native.Nat.{ℕ, _≤_}
+use Rattle.argument.proofs.Past.{said-past}
+use Rattle.argument.specs.Argument.{emptySaid, said, stopped, saidAt}
+use Rattle.argument.specs.declared.Argument.the-variants as A
 use Rattle.argument.specs.declared.Form.the-variants.{Nothing}
 use Rattle.argument.specs.declared.Said.{Said}
-use Rattle.argument.specs.Argument.{saidAt}
+use Rattle.line.proofs.Rows.{both}
+use Rattle.line.specs.Code.{over, allOver}
 use Rattle.line.specs.Command.{Arguments, formOf}
 use Rattle.line.specs.Line.{argumentsAt}
 
 abbrev together : Said → Said → Said → Said → Said → Said → Said → Arguments
-together a b c d e f g = record { a = a .argument; b = b .argument; c = c .argument; d = d .argument; e = e .argument; f = f .argument; end = g .argument }
+together a b c d e f g =
+    record {
+      a = a .argument;
+      b = b .argument;
+      c = c .argument;
+      d = d .argument;
+      e = e .argument;
+      f = f .argument;
+      end = g .argument;
+    }
 
-six-and-end : (a b c d e f g a' b' c' d' e' f' g' : Said) → a ≡ a' → b ≡ b' → c ≡ c' → d ≡ d' → e ≡ e' → f ≡ f' → g ≡ g'
-    → together a b c d e f g ≡ together a' b' c' d' e' f' g'
-six-and-end a b c d e f g a' b' c' d' e' f' g' qa qb qc qd qe qf qg =
-    ap₂ (λ (x y : Said). together x y c d e f g) qa qb
-    ∙ ap₂ (λ (x y : Said). together a' b' x y e f g) qc qd
-    ∙ ap₂ (λ (x y : Said). together a' b' c' d' x y g) qe qf
-    ∙ ap (λ (x : Said). together a' b' c' d' e' f' x) qg
+-- what the first three letters say from i on
+pub record First (names : List (List ℕ)) (line k : List ℕ) (i : ℕ) (a b c : Said) : Type 0 where
+  pub one : a ≡ saidAt names line (formOf (getD k 0 0)) i
+  pub two : b ≡ saidAt names line (formOf (getD k 1 0)) (a .stop)
+  pub three : c ≡ saidAt names line (formOf (getD k 2 0)) (b .stop)
 
-pub all : (names : List (List ℕ)) (line k : List ℕ) (i : ℕ) (fa fb fc fd fe ff : Form) (a b c d e f g : Said)
-    → fa ≡ formOf (getD k 0 0) → fb ≡ formOf (getD k 1 0) → fc ≡ formOf (getD k 2 0) → fd ≡ formOf (getD k 3 0) → fe ≡ formOf (getD k 4 0) → ff ≡ formOf (getD k 5 0)
-    → a ≡ saidAt names line fa i
-    → b ≡ saidAt names line fb (a .stop)
-    → c ≡ saidAt names line fc (b .stop)
-    → d ≡ saidAt names line fd (c .stop)
-    → e ≡ saidAt names line fe (d .stop)
-    → f ≡ saidAt names line ff (e .stop)
-    → g ≡ saidAt names line Nothing (f .stop)
+-- what the others say from i on, and that nothing follows
+pub record Rest (names : List (List ℕ)) (line k : List ℕ) (i : ℕ) (d e f g : Said) : Type 0 where
+  pub four : d ≡ saidAt names line (formOf (getD k 3 0)) i
+  pub five : e ≡ saidAt names line (formOf (getD k 4 0)) (d .stop)
+  pub six : f ≡ saidAt names line (formOf (getD k 5 0)) (e .stop)
+  pub last : g ≡ saidAt names line Nothing (f .stop)
+
+pub all : {names : List (List ℕ)} {line k : List ℕ} {i : ℕ} {a b c d e f g : Said}
+    → First names line k i a b c → Rest names line k (c .stop) d e f g
     → together a b c d e f g ≡ argumentsAt names line k i
 unfolding argumentsAt
-all names line k i fa fb fc fd fe ff a b c d e f g qa qb qc qd qe qf sa sb sc sd se sf sg =
-    let A : Said = saidAt names line (formOf (getD k 0 0)) i in
-    let ea : a ≡ A = sa ∙ ap (λ (m : Form). saidAt names line m i) qa in
-    let B : Said = saidAt names line (formOf (getD k 1 0)) (A .stop) in
-    let eb : b ≡ B = sb ∙ ap₂ (λ (m : Form) (y : Said). saidAt names line m (y .stop)) qb ea in
-    let C : Said = saidAt names line (formOf (getD k 2 0)) (B .stop) in
-    let ec : c ≡ C = sc ∙ ap₂ (λ (m : Form) (y : Said). saidAt names line m (y .stop)) qc eb in
-    let D : Said = saidAt names line (formOf (getD k 3 0)) (C .stop) in
-    let ed : d ≡ D = sd ∙ ap₂ (λ (m : Form) (y : Said). saidAt names line m (y .stop)) qd ec in
-    let E : Said = saidAt names line (formOf (getD k 4 0)) (D .stop) in
-    let ee : e ≡ E = se ∙ ap₂ (λ (m : Form) (y : Said). saidAt names line m (y .stop)) qe ed in
-    let F : Said = saidAt names line (formOf (getD k 5 0)) (E .stop) in
-    let ef : f ≡ F = sf ∙ ap₂ (λ (m : Form) (y : Said). saidAt names line m (y .stop)) qf ee in
-    let G : Said = saidAt names line Nothing (F .stop) in
-    let eg : g ≡ G = sg ∙ ap (λ (y : Said). saidAt names line Nothing (y .stop)) ef in
-    six-and-end a b c d e f g A B C D E F G ea eb ec ed ee ef eg
+all x y = rw (y .last, y .six, y .five, y .four, x .three, x .two, x .one) refl
+
+-- ---- a line that is over
+
+nothing-said : (names : List (List ℕ)) (line : List ℕ) (i : ℕ) → i ≡ length line
+    → stopped A.Nothing i ≡ saidAt names line Nothing i
+unfolding said emptySaid
+nothing-said names line i h = said-past names line Nothing i A.Nothing refl (omega arith) refl
+
+pub says-nothing : (names : List (List ℕ)) (line : List ℕ) (letter i : ℕ) → over letter (length line) i ≡ true
+    → stopped A.Nothing i ≡ saidAt names line (formOf letter) i
+unfolding formOf
+says-nothing names line letter i h =
+    let is = both (eqb letter 32) (eqb i (length line)) h in
+    let blank : letter ≡ 32 = eqb-true _ _ (is .0) in
+    rw blank (nothing-said names line i (eqb-true _ _ (is .1)))
+
+pub nothing-left : {names : List (List ℕ)} {line k : List ℕ} {i : ℕ} → allOver k (length line) i ≡ true
+    → Rest names line k i (stopped A.Nothing i) (stopped A.Nothing i) (stopped A.Nothing i) (stopped A.Nothing i)
+unfolding formOf
+nothing-left {names} {line} {k} {i} h =
+    let now : Bool = over (getD k 3 0) (length line) i in
+    let two = both (now && eqb (getD k 4 0) 32) (eqb (getD k 5 0) 32) h in
+    let one = both now (eqb (getD k 4 0) 32) (two .0) in
+    let at-end = eqb-true _ _ (both (eqb (getD k 3 0) 32) (eqb i (length line)) (one .0) .1) in
+    let fifth : getD k 4 0 ≡ 32 = eqb-true _ _ (one .1) in
+    let sixth : getD k 5 0 ≡ 32 = eqb-true _ _ (two .1) in
+    record {
+      four = says-nothing names line (getD k 3 0) i (one .0);
+      five = rw fifth (nothing-said names line i at-end);
+      six = rw sixth (nothing-said names line i at-end);
+      last = nothing-said names line i at-end;
+    }

@@ -1,5 +1,5 @@
 -- Laws of the judgement of a line. Assumes nothing.
-use mathlib.Core.Path.{_≡_, refl, sym, _∙_, ap, ap₂}
+use mathlib.Core.Path.{_≡_, refl, sym, _∙_, ap}
 use mathlib.Core.List.{List, [], _∷_}
 use mathlib.Core.Option.{Option, none, some}
 use Prim.Native.Nat.{ℕ, _≤_, _<_}
@@ -9,9 +9,8 @@ use types.Run.{OneOf, miss}
 use denote.Enum.Declared.{tagOf}
 use Rattle.table.specs.declared.Item.{Item}
 use Rattle.word.specs.declared.Span.{Span}
-use Rattle.word.specs.declared.Found.{Found}
 use Rattle.word.specs.declared.Found.the-variants.{At as at, Nothing as nowhere}
-use Rattle.word.specs.Word.{wordAt, part, padded, sameBytes, place, seek}
+use Rattle.word.specs.Word.{wordAt, part, seek}
 use Rattle.argument.specs.declared.Refusal.{Refusal}
 use Rattle.argument.specs.declared.Refusal.the-variants as R
 use Rattle.argument.specs.Refusal.{numberOf}
@@ -22,8 +21,9 @@ use Rattle.argument.specs.Code.{numbered}
 use lib.ListN.{length}
 use Rattle.argument.proofs.Past.{word-past}
 use Rattle.argument.proofs.Argument.{the-type}
-use Rattle.line.specs.Command.{Make, Command, Arguments, itemOf, commands, tagCommand, commandWords, commandAt}
-use Rattle.line.specs.Line.{item, refused, argumentsAt, lower, lowest, orItem, verdict, byCommand, judged}
+use Rattle.line.proofs.Letters.{no-bytes}
+use Rattle.line.specs.Command.{Arguments, itemOf, commandWords, commandAt}
+use Rattle.line.specs.Line.{item, refused, argumentsAt, lower, lowest, verdict, judged}
 
 -- ---- the lower of two numbers
 
@@ -80,36 +80,40 @@ lower-right a b x y e f h = right-is (wrongOf a) (wrongOf b) x y (of-form a) e f
 
 -- ---- the judgement
 
-pub unknown : (names : List (List ℕ)) (line : List ℕ) (i : ℕ) (w : Span) → w ≡ wordAt line i → seek commandWords (part line w) ≡ nowhere → refused 14 ≡ judged names line i
+pub unknown : (names : List (List ℕ)) (line : List ℕ) (i : ℕ) (w : Span)
+    → w ≡ wordAt line i → seek commandWords (part line w) ≡ nowhere → refused 14 ≡ judged names line i
 unfolding judged
-unknown names line i w e f = sym (ap₂ (λ (v : Span) (g : Found). byCommand names line (v .end) g) (sym e) (ap (λ (v : Span). seek commandWords (part line v)) (sym e) ∙ f))
-
-no-word : seek commandWords [] ≡ nowhere
-unfolding seek commandWords commands padded tagCommand place sameBytes
-no-word = refl
+unknown names line i w e f = rw (← e, f) refl
 
 pub past : (names : List (List ℕ)) (line : List ℕ) (i : ℕ) → length line < i → refused 14 ≡ judged names line i
-past names line i h = unknown names line i (wordAt line i) refl (ap (seek commandWords) (word-past line i h .0) ∙ no-word)
+past names line i h =
+    let none = word-past line i (omega arith) in
+    unknown names line i (wordAt line i) refl (sym (no-bytes _ (rw (none .0) refl)))
 
-pub known : (names : List (List ℕ)) (line : List ℕ) (i : ℕ) (w : Span) (k : ℕ) (shape : List ℕ) (x : Arguments)
-    → w ≡ wordAt line i → seek commandWords (part line w) ≡ at k → shape ≡ commandAt k .shape → x ≡ argumentsAt names line shape (w .end)
-    → judged names line i ≡ verdict (commandAt k) x
+-- a line whose word w is the command of row k, with what its arguments say
+pub record Asked (names : List (List ℕ)) (line : List ℕ) (i : ℕ) (w : Span) (k : ℕ) (x : Arguments) : Type 0 where
+  pub word : w ≡ wordAt line i
+  pub row : seek commandWords (part line w) ≡ at k
+  pub says : x ≡ argumentsAt names line (commandAt k .shape) (w .end)
+
+known : {names : List (List ℕ)} {line : List ℕ} {i k : ℕ} {w : Span} {x : Arguments}
+    → Asked names line i w k x → judged names line i ≡ verdict (commandAt k) x
 unfolding judged
-known names line i w k shape x e f g h =
-    ap₂ (λ (v : Span) (y : Found). byCommand names line (v .end) y) (sym e) (ap (λ (v : Span). seek commandWords (part line v)) (sym e) ∙ f)
-    ∙ ap (λ (y : Arguments). verdict (commandAt k) y) (sym (h ∙ ap (λ (s : List ℕ). argumentsAt names line s (w .end)) g))
+known q = rw (← q .word, q .row, q .says) refl
 
 -- the worst argument is wrong
-pub faulty : (c : Command) (x : Arguments) (y : Argument) (r : Refusal) → wrongOf y ≡ lowest x → y ≡ A.Wrong r → refused (numberOf r) ≡ verdict c x
-faulty c x y r e f =
+pub faulty : {names : List (List ℕ)} {line : List ℕ} {i k : ℕ} {w : Span} {x : Arguments}
+    → Asked names line i w k x → (y : Argument) (r : Refusal) → wrongOf y ≡ lowest x → y ≡ A.Wrong r
+    → refused (numberOf r) ≡ judged names line i
+faulty {x = x} q y r e f =
     let z : lowest x ≡ some (numberOf r) = sym e ∙ ap wrongOf f in
-    sym (ap (λ (w : Option ℕ). orItem w (itemOf (c .make) x)) z)
+    sym (known q ∙ rw z refl)
 
 -- the tags of arguments that are not wrong
 abbrev pub right : List ℕ
 right = 0 ∷ 1 ∷ 2 ∷ 3 ∷ 4 ∷ 5 ∷ 6 ∷ 7 ∷ []
 
-pub not-wrong : (y : Argument) → OneOf right (tagOf the-type y) → wrongOf y ≡ none
+not-wrong : (y : Argument) → OneOf right (tagOf the-type y) → wrongOf y ≡ none
 not-wrong A.Nothing k = refl
 not-wrong (A.Name y) k = refl
 not-wrong (A.Operand y) k = refl
@@ -121,8 +125,9 @@ not-wrong (A.Text y) k = refl
 not-wrong (A.Wrong y) k = absurd (miss right 8 tt k)
 
 -- none is
-pub good : (c : Command) (x : Arguments) (y : Argument) (make : Make) (it : Item) → wrongOf y ≡ lowest x → OneOf right (tagOf the-type y)
-    → make ≡ c .make → it ≡ itemOf make x → item it ≡ verdict c x
-good c x y make it e k f g =
-    let z : lowest x ≡ none = sym e ∙ not-wrong y k in
-    ap item (g ∙ ap (λ (m : Make). itemOf m x) f) ∙ sym (ap (λ (w : Option ℕ). orItem w (itemOf (c .make) x)) z)
+pub good : {names : List (List ℕ)} {line : List ℕ} {i k : ℕ} {w : Span} {x : Arguments}
+    → Asked names line i w k x → (y : Argument) (it : Item) → wrongOf y ≡ lowest x → OneOf right (tagOf the-type y)
+    → it ≡ itemOf (commandAt k .make) x → item it ≡ judged names line i
+good {x = x} q y it e t g =
+    let z : lowest x ≡ none = sym e ∙ not-wrong y t in
+    ap item g ∙ sym (known q ∙ rw z refl)

@@ -2,3 +2,4 @@ pub mod Rows
 pub mod Judge
 pub mod All
 pub mod Tight
+pub mod Letters

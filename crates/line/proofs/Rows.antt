@@ -1,12 +1,41 @@
 -- Laws of the rows of the command table. Assumes nothing.
-use mathlib.Core.Path.{_≡_, refl, _∙_, ap, sym}
-use mathlib.Core.List.{List, [], _∷_, map}
-use Prim.Native.Nat.{ℕ, zero, suc, _+_, _-_, _≤_, _<_}
-use native.Mathlib.Omega.{arith}
-use lib.ListN.{length, getD, replicate, List·getD-eq-default}
+use lib.ListN.{drop, getD, replicate}
 use lib.Seq.{getD-drop}
+use mathlib.Core.Bool.{Bool, true, false, _&&_}
+use mathlib.Core.List.{List, [], _∷_}
+use mathlib.Core.Path.{_≡_, refl, sym, _∙_, ap}
+use native.Mathlib.Omega.{arith}
+use Prim.Native.Nat.{ℕ, zero, suc, _+_, _-_, _≤_}
 use Rattle.line.specs.Command.{Command, commands, tagCommand, commandAt}
 use Rattle.line.specs.declared.Make.the-variants as M
+use Rattle.word.specs.Word.{padded}
+
+pub both : (a b : Bool) → (a && b) ≡ true → (a ≡ true) × (b ≡ true)
+both true b e = (refl, e)
+both false b e = let z : _≡_ {A = ℕ} 0 1 = cc in absurd (omega arith)
+
+-- ---- what the last arm of a match on a number knows
+
+-- x is none of these, of which the first was tested last
+abbrev pub Others : List ℕ → ℕ → Type 0
+Others [] x = Unit {0}
+Others (k ∷ ks) x = Others ks x × (x ≡ k → ⊥)
+
+-- the numbers below n
+abbrev pub below : ℕ → List ℕ
+below zero = []
+below (suc n) = n ∷ below n
+
+pub past : (n x : ℕ) → Others (below n) x → n ≤ x
+past zero x o = omega arith
+past (suc n) x o = omega (arith, past n x (o .0), o .1)
+
+-- ---- the rows from n on
+
+from-row : (n k : ℕ) (cs : List Command) → n ≤ k → getD cs k tagCommand ≡ getD (drop n cs) (k - n) tagCommand
+from-row n k cs h =
+    let e : n + (k - n) ≡ k = omega arith in
+    rw (getD-drop n cs (k - n) tagCommand, e) refl
 
 same-tail : (d : Command) (m : ℕ) → d ≡ getD (d ∷ []) m d
 same-tail d zero = refl
@@ -14,25 +43,22 @@ same-tail d (suc m) = refl
 
 pub last-make : (k : ℕ) → 28 ≤ k → M.Tag ≡ commandAt k .make
 unfolding commandAt commands tagCommand
-last-make k h =
-    let e : 28 + (k - 28) ≡ k = omega arith in
-    ap (λ (c : Command). c .make) (same-tail tagCommand (k - 28) ∙ getD-drop 28 commands (k - 28) tagCommand ∙ ap (λ (n : ℕ). getD commands n tagCommand) e)
+last-make k h = ap (λ (c : Command). c .make) (same-tail tagCommand (k - 28) ∙ sym (from-row 28 k commands h))
 
-abbrev shapes : List Command → List (List ℕ)
-shapes cs = map (λ (c : Command). c .shape) cs
+-- commands without arguments
+abbrev Plain : List Command → Type 0
+Plain [] = Unit {0}
+Plain (c ∷ cs) = (replicate 6 32 ≡ c .shape) × Plain cs
 
-shape-at : (cs : List Command) (k : ℕ) (d : Command) (e : List ℕ) → k < length cs → getD (shapes cs) k e ≡ getD cs k d .shape
-shape-at [] k d e h = absurd (omega arith)
-shape-at (c ∷ cs) zero d e h = refl
-shape-at (c ∷ cs) (suc k) d e h = shape-at cs k d e (omega arith)
+plain-row : (cs : List Command) (m : ℕ) → Plain cs → replicate 6 32 ≡ getD cs m tagCommand .shape
+unfolding tagCommand padded
+plain-row [] m p = refl
+plain-row (c ∷ cs) zero p = p .0
+plain-row (c ∷ cs) (suc m) p = plain-row cs m (p .1)
 
-pub shape-row : (k : ℕ) → k < 29 → getD (shapes commands) k [] ≡ commandAt k .shape
-unfolding commandAt commands
-shape-row k h = shape-at commands k tagCommand [] h
-
-pub past-shape : (k : ℕ) → 29 ≤ k → replicate 6 32 ≡ commandAt k .shape
-unfolding commandAt commands tagCommand
-past-shape k h = ap (λ (c : Command). c .shape) (sym (List·getD-eq-default commands tagCommand h))
-
-pub up : (n k : ℕ) → n ≤ k → (k ≡ n → ⊥) → n + 1 ≤ k
-up n k h e = omega arith
+pub last-shape : (k : ℕ) → 18 ≤ k → replicate 6 32 ≡ commandAt k .shape
+unfolding commandAt commands tagCommand padded
+last-shape k h =
+    let plain : Plain (drop 18 commands) =
+    (refl, (refl, (refl, (refl, (refl, (refl, (refl, (refl, (refl, (refl, (refl, tt))))))))))) in
+    plain-row (drop 18 commands) (k - 18) plain ∙ sym (ap (λ (c : Command). c .shape) (from-row 18 k commands h))

@@ -17,5 +17,6 @@ same-meaning (J.Item a) (J.Refused b) e = let z : _≡_ {A = ℕ} 0 1 = cc in ab
 same-meaning (J.Refused a) (J.Item b) e = let z : _≡_ {A = ℕ} 0 1 = cc in absurd (omega arith)
 same-meaning (J.Refused a) (J.Refused b) e = let q : numberOf a ≡ numberOf b = cc in ap J.Refused (same-number a b q)
 
-pub only-judge-line : (script : List ℕ) (i : ℕ) (names : List (List ℕ)) (r r' : Judged) → meaning r ≡ judged names script i → meaning r' ≡ judged names script i → r ≡ r'
+pub only-judge-line : (script : List ℕ) (i : ℕ) (names : List (List ℕ)) (r r' : Judged)
+    → meaning r ≡ judged names script i → meaning r' ≡ judged names script i → r ≡ r'
 only-judge-line script i names r r' e e' = same-meaning r r' (e ∙ sym e')

@@ -1,30 +1,31 @@
--- 01, "Script text", Items: the commands, one line each: its word, the forms of its arguments, and the item that they make.
+-- 01, "Script text", Items: the commands, one line each: its word, the forms of its arguments, and the item that they
+-- make.
 use Prim.Native.Nat.{ℕ, _-_}
 use mathlib.Core.Bool.{cond}
 use lib.Dec.{eqb}
 use Prim.Native.String.{String}
 use mathlib.Core.List.{List, [], _∷_, _++_, map}
 use lib.ListN.{length, getD, replicate}
-use Rattle.value.specs.declared.Operation.the-variants.{Add as add, Sub as sub, Mul as mul, Div as div}
+use Rattle.value.specs.declared.Operation.the-variants as Operation
 use Rattle.table.specs.declared.Condition.{Condition}
 use Rattle.table.specs.declared.Sweep.{Sweep}
 use Rattle.table.specs.declared.Act.{Act}
-use Rattle.table.specs.declared.Act.the-variants.{Var as var, Store as store, Copy as copy, Calc as calc, Meas as meas, TimerGet as timerGet, SendString as sendString, Wait as wait, SetE as setE, SetMode as setMode, TimerStart as timerStart, CellOn as cellOn, CellOff as cellOff, Abort as abort}
+use Rattle.table.specs.declared.Act.the-variants as Act
 use Rattle.table.specs.declared.Pack.{Pack}
-use Rattle.table.specs.declared.Pack.the-variants.{Start as pckStart, Add as pckAdd, End as pckEnd}
+use Rattle.table.specs.declared.Pack.the-variants as Pack
 use Rattle.table.specs.declared.Head.{Head}
-use Rattle.table.specs.declared.Head.the-variants.{If as if', Loop as loop, Sweep as sweep}
+use Rattle.table.specs.declared.Head.the-variants as Head
 use Rattle.table.specs.declared.Branch.{Branch}
-use Rattle.table.specs.declared.Branch.the-variants.{ElseIf as elseif, Else as else}
+use Rattle.table.specs.declared.Branch.the-variants as Branch
 use Rattle.table.specs.declared.Close.{Close}
-use Rattle.table.specs.declared.Close.the-variants.{EndIf as endif, EndLoop as endloop}
+use Rattle.table.specs.declared.Close.the-variants as Close
 use Rattle.table.specs.declared.Item.{Item}
-use Rattle.table.specs.declared.Item.the-variants.{Act as act, Pack as pack, Open as opens, Branch as branch, Close as closes, Break as breakloop, Tag as tag}
+use Rattle.table.specs.declared.Item.the-variants as Item
 use Rattle.text.specs.Bytes.{byte, ascii}
 use Rattle.word.specs.Word.{padded}
 use Rattle.argument.specs.declared.Argument.{Argument}
 use Rattle.argument.specs.declared.Form.{Form}
-use Rattle.argument.specs.declared.Form.the-variants.{Nothing, New, Name, Operand, Literal, Letters, Number, Comparison, Text}
+use Rattle.argument.specs.declared.Form.the-variants as Form
 use Rattle.argument.specs.Holds.{nameOf, operandOf, valueOf, lettersOf, smallOf, comparisonOf, textOf}
 pub use Rattle.line.specs.declared.Arguments.{Arguments}
 pub use Rattle.line.specs.declared.MakeAct.{MakeAct}
@@ -44,46 +45,54 @@ abbrev pub conditionOf : Argument → Argument → Argument → Condition
 conditionOf a b c = record { left = operandOf a; by = comparisonOf b; right = operandOf c }
 
 abbrev pub sweepOf : Arguments → Sweep
-sweepOf x = record { potential = nameOf (x .a); current = nameOf (x .b); begin = operandOf (x .c); end = operandOf (x .d); step = operandOf (x .e); rate = operandOf (x .f) }
+sweepOf x =
+    record {
+      potential = nameOf (x .a);
+      current = nameOf (x .b);
+      begin = operandOf (x .c);
+      end = operandOf (x .d);
+      step = operandOf (x .e);
+      rate = operandOf (x .f);
+    }
 
 abbrev pub actOf : MakeAct → Argument → Argument → Argument → Act
-actOf A.Var a b c = var (nameOf a)
-actOf A.Store a b c = store (nameOf a) (valueOf b) (lettersOf c)
-actOf A.Copy a b c = copy (nameOf a) (nameOf b)
-actOf (A.Calc o) a b c = calc o (nameOf a) (operandOf b)
-actOf A.Meas a b c = meas (operandOf a) (nameOf b) (lettersOf c)
-actOf A.TimerGet a b c = timerGet (nameOf a)
-actOf A.SendString a b c = sendString (textOf a)
-actOf A.Wait a b c = wait (operandOf a)
-actOf A.SetE a b c = setE (operandOf a)
-actOf A.SetMode a b c = setMode (smallOf a)
-actOf A.TimerStart a b c = timerStart
-actOf A.CellOn a b c = cellOn
-actOf A.CellOff a b c = cellOff
-actOf A.Abort a b c = abort
+actOf A.Var a b c = Act.Var (nameOf a)
+actOf A.Store a b c = Act.Store (nameOf a) (valueOf b) (lettersOf c)
+actOf A.Copy a b c = Act.Copy (nameOf a) (nameOf b)
+actOf (A.Calc o) a b c = Act.Calc o (nameOf a) (operandOf b)
+actOf A.Meas a b c = Act.Meas (operandOf a) (nameOf b) (lettersOf c)
+actOf A.TimerGet a b c = Act.TimerGet (nameOf a)
+actOf A.SendString a b c = Act.SendString (textOf a)
+actOf A.Wait a b c = Act.Wait (operandOf a)
+actOf A.SetE a b c = Act.SetE (operandOf a)
+actOf A.SetMode a b c = Act.SetMode (smallOf a)
+actOf A.TimerStart a b c = Act.TimerStart
+actOf A.CellOn a b c = Act.CellOn
+actOf A.CellOff a b c = Act.CellOff
+actOf A.Abort a b c = Act.Abort
 
 abbrev pub packOf : MakePack → Argument → Pack
-packOf P.Start a = pckStart
-packOf P.Add a = pckAdd (nameOf a)
-packOf P.End a = pckEnd
+packOf P.Start a = Pack.Start
+packOf P.Add a = Pack.Add (nameOf a)
+packOf P.End a = Pack.End
 
 abbrev pub headOf : MakeHead → Arguments → Head
-headOf H.If x = if' (conditionOf (x .a) (x .b) (x .c))
-headOf H.Loop x = loop (conditionOf (x .a) (x .b) (x .c))
-headOf H.Sweep x = sweep (sweepOf x)
+headOf H.If x = Head.If (conditionOf (x .a) (x .b) (x .c))
+headOf H.Loop x = Head.Loop (conditionOf (x .a) (x .b) (x .c))
+headOf H.Sweep x = Head.Sweep (sweepOf x)
 
 abbrev pub branchOf : MakeBranch → Argument → Argument → Argument → Branch
-branchOf B.ElseIf a b c = elseif (conditionOf a b c)
-branchOf B.Else a b c = else
+branchOf B.ElseIf a b c = Branch.ElseIf (conditionOf a b c)
+branchOf B.Else a b c = Branch.Else
 
 abbrev pub itemOf : Make → Arguments → Item
-itemOf (M.Act m) x = act (actOf m (x .a) (x .b) (x .c))
-itemOf (M.Pack m) x = pack (packOf m (x .a))
-itemOf (M.Open m) x = opens (headOf m x)
-itemOf (M.Branch m) x = branch (branchOf m (x .a) (x .b) (x .c))
-itemOf (M.Close m) x = closes m
-itemOf M.Break x = breakloop
-itemOf M.Tag x = tag
+itemOf (M.Act m) x = Item.Act (actOf m (x .a) (x .b) (x .c))
+itemOf (M.Pack m) x = Item.Pack (packOf m (x .a))
+itemOf (M.Open m) x = Item.Open (headOf m x)
+itemOf (M.Branch m) x = Item.Branch (branchOf m (x .a) (x .b) (x .c))
+itemOf (M.Close m) x = Item.Close m
+itemOf M.Break x = Item.Break
+itemOf M.Tag x = Item.Tag
 
 -- ---- the table
 
@@ -94,7 +103,8 @@ pub record Command : Type 0 where
   pub make : Make
 
 abbrev pub row : String → String → Make → Command
-row w s m = record { word = padded (ascii w); shape = ascii s ++ replicate (6 - length (ascii s)) (byte " "); make = m }
+row w s m =
+    record { word = padded (ascii w); shape = ascii s ++ replicate (6 - length (ascii s)) (byte " "); make = m }
 
 unfoldable pub tagCommand : Command
 unfolding padded
@@ -107,10 +117,10 @@ commands =
     row "var" "w" (M.Act A.Var) ∷
     row "store_var" "vlt" (M.Act A.Store) ∷
     row "copy_var" "vv" (M.Act A.Copy) ∷
-    row "add_var" "vx" (M.Act (A.Calc add)) ∷
-    row "sub_var" "vx" (M.Act (A.Calc sub)) ∷
-    row "mul_var" "vx" (M.Act (A.Calc mul)) ∷
-    row "div_var" "vx" (M.Act (A.Calc div)) ∷
+    row "add_var" "vx" (M.Act (A.Calc Operation.Add)) ∷
+    row "sub_var" "vx" (M.Act (A.Calc Operation.Sub)) ∷
+    row "mul_var" "vx" (M.Act (A.Calc Operation.Mul)) ∷
+    row "div_var" "vx" (M.Act (A.Calc Operation.Div)) ∷
     row "if" "xox" (M.Open H.If) ∷
     row "elseif" "xox" (M.Branch B.ElseIf) ∷
     row "loop" "xox" (M.Open H.Loop) ∷
@@ -123,8 +133,8 @@ commands =
     row "set_e" "x" (M.Act A.SetE) ∷
     row "set_pgstat_mode" "n" (M.Act A.SetMode) ∷
     row "else" "" (M.Branch B.Else) ∷
-    row "endif" "" (M.Close endif) ∷
-    row "endloop" "" (M.Close endloop) ∷
+    row "endif" "" (M.Close Close.EndIf) ∷
+    row "endloop" "" (M.Close Close.EndLoop) ∷
     row "breakloop" "" M.Break ∷
     row "timer_start" "" (M.Act A.TimerStart) ∷
     row "pck_start" "" (M.Pack P.Start) ∷
@@ -143,11 +153,11 @@ commandAt k = getD commands k tagCommand
 
 unfoldable pub formOf : ℕ → Form
 formOf c =
-    cond (eqb c (byte "w")) New
-    (cond (eqb c (byte "v")) Name
-    (cond (eqb c (byte "x")) Operand
-    (cond (eqb c (byte "l")) Literal
-    (cond (eqb c (byte "t")) Letters
-    (cond (eqb c (byte "n")) Number
-    (cond (eqb c (byte "o")) Comparison
-    (cond (eqb c (byte "s")) Text Nothing)))))))
+    cond (eqb c (byte "w")) Form.New
+    (cond (eqb c (byte "v")) Form.Name
+    (cond (eqb c (byte "x")) Form.Operand
+    (cond (eqb c (byte "l")) Form.Literal
+    (cond (eqb c (byte "t")) Form.Letters
+    (cond (eqb c (byte "n")) Form.Number
+    (cond (eqb c (byte "o")) Form.Comparison
+    (cond (eqb c (byte "s")) Form.Text Form.Nothing)))))))

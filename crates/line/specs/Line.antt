@@ -37,7 +37,15 @@ argumentsAt names line k i =
     let e : Said = saidAt names line (formOf (getD k 4 0)) (d .stop) in
     let f : Said = saidAt names line (formOf (getD k 5 0)) (e .stop) in
     let g : Said = saidAt names line Nothing (f .stop) in
-    record { a = a .argument; b = b .argument; c = c .argument; d = d .argument; e = e .argument; f = f .argument; end = g .argument }
+    record {
+      a = a .argument;
+      b = b .argument;
+      c = c .argument;
+      d = d .argument;
+      e = e .argument;
+      f = f .argument;
+      end = g .argument;
+    }
 
 unfoldable pub lower : Option ℕ → Option ℕ → Option ℕ
 lower none b = b
@@ -46,7 +54,9 @@ lower (some m) (some n) = some (cond (ltb m n) m n)
 
 -- "lowest number within a line", if an argument is wrong
 unfoldable pub lowest : Arguments → Option ℕ
-lowest x = lower (wrongOf (x .a)) (lower (wrongOf (x .b)) (lower (wrongOf (x .c)) (lower (wrongOf (x .d)) (lower (wrongOf (x .e)) (lower (wrongOf (x .f)) (wrongOf (x .end)))))))
+lowest x =
+    lower (wrongOf (x .a)) (lower (wrongOf (x .b)) (lower (wrongOf (x .c)) (lower (wrongOf (x .d))
+    (lower (wrongOf (x .e)) (lower (wrongOf (x .f)) (wrongOf (x .end)))))))
 
 abbrev pub orItem : Option ℕ → Item → Judgement
 orItem none it = item it

@@ -2,6 +2,7 @@
 use argument::Argument;
 use argument::Form;
 use argument::Refusal;
+use argument::Said;
 use table::Act;
 use table::Branch;
 use table::Close;
@@ -13,9 +14,13 @@ use table::Sweep;
 use value::Operation;
 use word::Found;
 ghost use mathlib.Core.Path.{_≡_};
+ghost use lib.ListN.{length};
 ghost use Rattle.word.specs.Word.{seek};
+ghost use Rattle.argument.specs.Argument.{saidAt};
 ghost use Rattle.argument.specs.Holds.{wrongOf};
-ghost use Rattle.line.specs.Command.{conditionOf, sweepOf, actOf, packOf, headOf, branchOf, itemOf, commandWords, commandAt, formOf};
+ghost use Rattle.line.specs.Code.{rowOf, over, allOver};
+ghost use Rattle.line.specs.Command.{conditionOf, sweepOf, actOf, packOf, headOf, branchOf, itemOf};
+ghost use Rattle.line.specs.Command.{commandWords, commandAt, formOf};
 ghost use Rattle.line.specs.Line.{argumentsAt, lower, lowest, meaning, judged};
 
 pub enum Judged {
@@ -68,6 +73,9 @@ pub enum Make {
     Tag,
 }
 
+// The most commands that begin with one letter.
+const MOST_ALIKE: usize = 5;
+
 // The arguments of a command, and what stands after them.
 pub struct Arguments {
     pub a: Argument,
@@ -79,74 +87,7 @@ pub struct Arguments {
     pub end: Argument,
 }
 
-// ---- commands: in the same row its word, the letters of its arguments, and what it makes
-
-const HOW_MANY: usize = 29;
-
-const WORDS: [[u8; 16]; 29] = [
-    *b"var             ",
-    *b"store_var       ",
-    *b"copy_var        ",
-    *b"add_var         ",
-    *b"sub_var         ",
-    *b"mul_var         ",
-    *b"div_var         ",
-    *b"if              ",
-    *b"elseif          ",
-    *b"loop            ",
-    *b"meas_loop_lsv   ",
-    *b"meas            ",
-    *b"timer_get       ",
-    *b"pck_add         ",
-    *b"send_string     ",
-    *b"wait            ",
-    *b"set_e           ",
-    *b"set_pgstat_mode ",
-    *b"else            ",
-    *b"endif           ",
-    *b"endloop         ",
-    *b"breakloop       ",
-    *b"timer_start     ",
-    *b"pck_start       ",
-    *b"pck_end         ",
-    *b"cell_on         ",
-    *b"cell_off        ",
-    *b"abort           ",
-    *b"on_finished:    ",
-];
-
-// As 01 writes them: v a name, x a name or literal (also where 01 writes f), t a type, n a number; w a new name, l a literal, o a comparison, s a text.
-const SHAPES: [[u8; 6]; 29] = [
-    *b"w     ",
-    *b"vlt   ",
-    *b"vv    ",
-    *b"vx    ",
-    *b"vx    ",
-    *b"vx    ",
-    *b"vx    ",
-    *b"xox   ",
-    *b"xox   ",
-    *b"xox   ",
-    *b"vvxxxx",
-    *b"xvt   ",
-    *b"v     ",
-    *b"v     ",
-    *b"s     ",
-    *b"x     ",
-    *b"x     ",
-    *b"n     ",
-    *b"      ",
-    *b"      ",
-    *b"      ",
-    *b"      ",
-    *b"      ",
-    *b"      ",
-    *b"      ",
-    *b"      ",
-    *b"      ",
-    *b"      ",
-    *b"      ",
-];
+// ---- commands: by the number of its row in 01, what a command makes, the letters of its arguments, and its word
 
 fn make_at(k: usize) -> Make
     ensures { λ r. ⌜ r ≡ commandAt k .make ⌝ }
@@ -184,20 +125,133 @@ fn make_at(k: usize) -> Make
     }
 }
 
+// As 01 writes them: v a name, x a name or literal (also where 01 writes f), t a type, n a number; w a new name, l a
+// literal, o a comparison, s a text. A match and no table, which would be laid down anew for each line.
 fn shape_at(k: usize) -> [u8; 6]
     ensures { λ r. ⌜ r ≡ commandAt k .shape ⌝ }
 {
-    if k < HOW_MANY {
-        return SHAPES[k];
+    match k {
+        0 => *b"w     ",
+        1 => *b"vlt   ",
+        2 => *b"vv    ",
+        3 => *b"vx    ",
+        4 => *b"vx    ",
+        5 => *b"vx    ",
+        6 => *b"vx    ",
+        7 => *b"xox   ",
+        8 => *b"xox   ",
+        9 => *b"xox   ",
+        10 => *b"vvxxxx",
+        11 => *b"xvt   ",
+        12 => *b"v     ",
+        13 => *b"v     ",
+        14 => *b"s     ",
+        15 => *b"x     ",
+        16 => *b"x     ",
+        17 => *b"n     ",
+        _ => *b"      ",
     }
-    [b' '; 6]
 }
 
-// The row of a command's word.
+// The words by their letter.
+const A: [[u8; 16]; 2] = [*b"add_var         ", *b"abort           "];
+
+const B: [[u8; 16]; 1] = [*b"breakloop       "];
+
+const C: [[u8; 16]; 3] = [
+    *b"copy_var        ",
+    *b"cell_on         ",
+    *b"cell_off        ",
+];
+
+const D: [[u8; 16]; 1] = [*b"div_var         "];
+
+const E: [[u8; 16]; 4] = [
+    *b"elseif          ",
+    *b"else            ",
+    *b"endif           ",
+    *b"endloop         ",
+];
+
+const I: [[u8; 16]; 1] = [*b"if              "];
+
+const L: [[u8; 16]; 1] = [*b"loop            "];
+
+const M: [[u8; 16]; 3] = [
+    *b"mul_var         ",
+    *b"meas_loop_lsv   ",
+    *b"meas            ",
+];
+
+const O: [[u8; 16]; 1] = [*b"on_finished:    "];
+
+const P: [[u8; 16]; 3] = [
+    *b"pck_add         ",
+    *b"pck_start       ",
+    *b"pck_end         ",
+];
+
+const S: [[u8; 16]; 5] = [
+    *b"store_var       ",
+    *b"sub_var         ",
+    *b"send_string     ",
+    *b"set_e           ",
+    *b"set_pgstat_mode ",
+];
+
+const T: [[u8; 16]; 2] = [*b"timer_get       ", *b"timer_start     "];
+
+const V: [[u8; 16]; 1] = [*b"var             "];
+
+const W: [[u8; 16]; 1] = [*b"wait            "];
+
+// The row of a word, found at a place among those of some rows.
+fn row_of(found: Found, rows: [usize; 5]) -> Found
+    ensures { λ r. ⌜ r ≡ rowOf rows found ⌝ }
+{
+    match found {
+        Found::At(i) => {
+            if i < MOST_ALIKE {
+                Found::At(rows[i])
+            } else {
+                Found::Nothing
+            }
+        }
+        Found::Nothing => Found::Nothing,
+    }
+}
+
+fn among(word: &[u8], words: &[[u8; 16]], rows: [usize; 5]) -> Found
+    ensures { λ r. ⌜ r ≡ rowOf rows (seek (now (words .entry)) (now (word .entry))) ⌝ }
+{
+    let found = word::seek_word(words, word);
+    row_of(found, rows)
+}
+
+// The row of a command's word, which is looked for among the words that begin with its letter.
 fn find_command(word: &[u8]) -> Found
     ensures { λ r. ⌜ r ≡ seek commandWords (now (word .entry)) ⌝ }
 {
-    word::seek_word(&WORDS, word)
+    if word.len() == 0 {
+        return Found::Nothing;
+    }
+    match word[0] {
+        b'a' => among(word, &A, [3, 27, 0, 0, 0]),
+        b'b' => among(word, &B, [21, 0, 0, 0, 0]),
+        b'c' => among(word, &C, [2, 25, 26, 0, 0]),
+        b'd' => among(word, &D, [6, 0, 0, 0, 0]),
+        b'e' => among(word, &E, [8, 18, 19, 20, 0]),
+        b'i' => among(word, &I, [7, 0, 0, 0, 0]),
+        b'l' => among(word, &L, [9, 0, 0, 0, 0]),
+        b'm' => among(word, &M, [5, 10, 11, 0, 0]),
+        b'o' => among(word, &O, [28, 0, 0, 0, 0]),
+        b'p' => among(word, &P, [13, 23, 24, 0, 0]),
+        b's' => among(word, &S, [1, 4, 14, 16, 17]),
+        b't' => among(word, &T, [12, 22, 0, 0, 0]),
+        b'v' => among(word, &V, [0, 0, 0, 0, 0]),
+        b'w' => among(word, &W, [15, 0, 0, 0, 0]),
+        _ => Found::Nothing,
+    }
 }
 
 fn form_of(letter: u8) -> Form
@@ -216,26 +270,59 @@ fn form_of(letter: u8) -> Form
     }
 }
 
-// All arguments, and that nothing follows them.
+// Whether a letter asks for nothing, and the line is at its end.
+fn is_over(letter: u8, line: &[u8], at: usize) -> bool
+    ensures { λ r. ⌜ r ≡ over letter (length (now (line .entry))) at ⌝ }
+{
+    (letter == b' ') & (at == line.len())
+}
+
+// The argument that a letter asks for at a place.
+fn say_next(letter: u8, line: &[u8], at: usize, names: &[[u8; 16]]) -> Said
+    ensures { λ r. ⌜ r ≡ saidAt (now (names .entry)) (now (line .entry)) (formOf letter) at ⌝ }
+{
+    if is_over(letter, line, at) {
+        return Said {
+            argument: Argument::Nothing,
+            stop: at,
+        };
+    }
+    argument::say_at(form_of(letter), line, at, names)
+}
+
+// Whether the arguments from the fourth on are asked for by no letter, and the line is at its end.
+fn is_all_over(shape: [u8; 6], line: &[u8], at: usize) -> bool
+    ensures { λ r. ⌜ r ≡ allOver shape (length (now (line .entry))) at ⌝ }
+{
+    let over = is_over(shape[3], line, at);
+    over & (shape[4] == b' ') & (shape[5] == b' ')
+}
+
+// All arguments, and that nothing follows them. Most lines end with their third at the latest.
 fn say_all(shape: [u8; 6], line: &[u8], at: usize, names: &[[u8; 16]]) -> Arguments
     ensures { λ r. ⌜ r ≡ argumentsAt (now (names .entry)) (now (line .entry)) shape at ⌝ }
 {
-    let fa = form_of(shape[0]);
-    let fb = form_of(shape[1]);
-    let fc = form_of(shape[2]);
-    let fd = form_of(shape[3]);
-    let fe = form_of(shape[4]);
-    let ff = form_of(shape[5]);
-    let a = argument::say_at(fa, line, at, names);
-    let b = argument::say_at(fb, line, a.stop, names);
-    let c = argument::say_at(fc, line, b.stop, names);
-    let d = argument::say_at(fd, line, c.stop, names);
-    let e = argument::say_at(fe, line, d.stop, names);
-    let f = argument::say_at(ff, line, e.stop, names);
-    let g = argument::say_at(Form::Nothing, line, f.stop, names);
+    let a = say_next(shape[0], line, at, names);
+    let b = say_next(shape[1], line, a.stop, names);
+    let c = say_next(shape[2], line, b.stop, names);
     let xa = a.argument;
     let xb = b.argument;
     let xc = c.argument;
+    if is_all_over(shape, line, c.stop) {
+        return Arguments {
+            a: xa,
+            b: xb,
+            c: xc,
+            d: Argument::Nothing,
+            e: Argument::Nothing,
+            f: Argument::Nothing,
+            end: Argument::Nothing,
+        };
+    }
+    let d = argument::say_at(form_of(shape[3]), line, c.stop, names);
+    let e = argument::say_at(form_of(shape[4]), line, d.stop, names);
+    let f = argument::say_at(form_of(shape[5]), line, e.stop, names);
+    let g = argument::say_at(Form::Nothing, line, f.stop, names);
     let xd = d.argument;
     let xe = e.argument;
     let xf = f.argument;
@@ -395,8 +482,8 @@ fn worst_of(x: Arguments) -> Argument
     worse_of(a, wb)
 }
 
-// A line that is not skipped, from `at` up to the end of these bytes of the script, where some names are declared: its item, or what is
-// wrong with it.
+// A line that is not skipped, from `at` up to the end of these bytes of the script, where some names are declared: its
+// item, or what is wrong with it.
 pub fn judge_line(script: &[u8], at: usize, names: &[[u8; 16]]) -> Judged
     ensures { λ r. ⌜ meaning r ≡ judged (now (names .entry)) (now (script .entry)) at ⌝ }
 {

@@ -96,7 +96,9 @@ returns : tie.Need-returns
 returns c = simp (c .name-of .ensures, c .before .enum-told .given .1)
 
 returns-2 : tie.Need-returns-2
-returns-2 c = simp (c .letters-of .ensures, c .before .value-of .ensures, c .before .before .name-of2 .ensures, c .before .before .before .enum-told2 .given .1)
+returns-2 c =
+    let b = c .before .before in
+    simp (c .letters-of .ensures, c .before .value-of .ensures, b .name-of2 .ensures, b .before .enum-told2 .given .1)
 
 returns-3 : tie.Need-returns-3
 returns-3 c = simp (c .name-of4 .ensures, c .before .name-of3 .ensures, c .before .before .enum-told3 .given .1)
@@ -105,7 +107,10 @@ returns-4 : tie.Need-returns-4
 returns-4 c = simp (c .operand-of .ensures, c .before .name-of5 .ensures, c .before .before .before .make .given .1)
 
 returns-5 : tie.Need-returns-5
-returns-5 c = simp (c .letters-of2 .ensures, c .before .name-of6 .ensures, c .before .before .operand-of2 .ensures, c .before .before .before .enum-told4 .given .1)
+returns-5 c =
+    let b = c .before in
+    let a = b .before in
+    simp (c .letters-of2 .ensures, b .name-of6 .ensures, a .operand-of2 .ensures, a .before .enum-told4 .given .1)
 
 returns-6 : tie.Need-returns-6
 returns-6 c = simp (c .name-of7 .ensures, c .before .enum-told5 .given .1)

@@ -38,7 +38,19 @@ returns-8 c = ap formOf (sym (c .match .keys8))
 
 returns-9 : tie.Need-returns-9
 unfolding formOf
-returns-9 c = rw (ne-eqb (c .before .args .letter) 119 (c .match .rest .0 .0 .0 .0 .0 .0 .0 .1), ne-eqb (c .before .args .letter) 118 (c .match .rest .0 .0 .0 .0 .0 .0 .1), ne-eqb (c .before .args .letter) 120 (c .match .rest .0 .0 .0 .0 .0 .1), ne-eqb (c .before .args .letter) 108 (c .match .rest .0 .0 .0 .0 .1), ne-eqb (c .before .args .letter) 116 (c .match .rest .0 .0 .0 .1), ne-eqb (c .before .args .letter) 110 (c .match .rest .0 .0 .1), ne-eqb (c .before .args .letter) 111 (c .match .rest .0 .1), ne-eqb (c .before .args .letter) 115 (c .match .rest .1)) refl
+returns-9 c =
+    let x = c .before .args .letter in
+    let o = c .match .rest in
+    rw (
+      ne-eqb x 119 (o .0 .0 .0 .0 .0 .0 .0 .1),
+      ne-eqb x 118 (o .0 .0 .0 .0 .0 .0 .1),
+      ne-eqb x 120 (o .0 .0 .0 .0 .0 .1),
+      ne-eqb x 108 (o .0 .0 .0 .0 .1),
+      ne-eqb x 116 (o .0 .0 .0 .1),
+      ne-eqb x 110 (o .0 .0 .1),
+      ne-eqb x 111 (o .0 .1),
+      ne-eqb x 115 (o .1),
+    ) refl
 
 pub form-of-spec : {M : Type 1} → statement M
 form-of-spec =

@@ -1,29 +1,72 @@
-use mathlib.Core.Path.{sym, _∙_}
-use native.Mathlib.Omega.{arith}
-use Rattle.word.proofs.Runs.{inside}
-use Rattle.argument.specs.Refusal.{numberOf}
-use Rattle.line.specs.Command.{commandAt}
-use Rattle.line.specs.Line.{meaning}
-use Rattle.line.proofs.Judge as L
+-- `line::judge_line` finds the command, then what its arguments say. Assumes nothing.
 use borrow.Author.Needs.{needs}
+use lib.ListN.{length}
+use mathlib.Core.List.{List}
+use mathlib.Core.Path.{_≡_, sym, _∙_}
+use native.Mathlib.Omega.{arith}
+use Prim.Native.Nat.{ℕ, _≤_}
+use Rattle.argument.specs.Refusal.{numberOf}
+use Rattle.line.proofs.Judge.{Asked, past, unknown, faulty, good}
 use Rattle.line.proofs.judge_line.Statement.{statement}
 use Rattle.line.proofs.judge_line.Tie as tie
+use Rattle.line.specs.Line.{meaning}
+use Rattle.word.proofs.Runs.{inside}
+
+-- ---- the places
+
+-- with the line's first word
+module _ (c : tie.After-word-at) where
+  abbrev names : List (List ℕ)
+  names = c .before .before .before .args .names .now
+
+  abbrev script : List ℕ
+  script = c .before .before .before .args .script .now
+
+  abbrev from : ℕ
+  from = c .before .before .before .args .at
+
+  stands : (c .word-at .result .start ≤ c .word-at .result .end) × (c .word-at .result .end ≤ length script)
+  stands = inside (c .word-at .result) script from (c .word-at .ensures) (c .before .if1 .left)
+
+-- with what the arguments of a command say
+module _ (c : tie.After-say-all) where
+  abbrev found : tie.After-known-told
+  found = c .before .before .before
+
+  abbrev row : ℕ
+  row = found .before .k .given .0 .0
+
+  abbrev looked : tie.After-find-command
+  looked = found .before .before .before
+
+  abbrev begun : tie.After-word-at
+  begun = looked .before .before
+
+  asked : Asked (names begun) (script begun) (from begun) (begun .word-at .result) row (c .say-all .result)
+  asked =
+      record {
+        word = begun .word-at .ensures;
+        row = sym (looked .find-command .ensures) ∙ found .before .k .given .1;
+        says = rw (c .before .before .shape-at .ensures) at (c .say-all .ensures);
+      }
+
+-- ---- the needs
 
 returns : tie.Need-returns
 unfolding meaning numberOf
-returns c = L.past (c .before .before .args .names .now) (c .before .before .args .script .now) (c .before .before .args .at) (c .if1 .taken)
+returns c = past _ _ _ (c .if1 .taken)
 
 word-at-requires : tie.Need-word-at-requires
 word-at-requires c κs = search needs
 
 sub-find-command : tie.Need-sub-find-command
-sub-find-command c = inside (c .word-at .result) (c .before .before .before .args .script .now) (c .before .before .before .args .at) (c .word-at .ensures) (c .before .if1 .left) .0
+sub-find-command c = stands c .0
 
 part-find-command-start : tie.Need-part-find-command-start
-part-find-command-start c = omega (arith, inside (c .word-at .result) (c .before .before .before .args .script .now) (c .before .before .before .args .at) (c .word-at .ensures) (c .before .if1 .left) .0, inside (c .word-at .result) (c .before .before .before .args .script .now) (c .before .before .before .args .at) (c .word-at .ensures) (c .before .if1 .left) .1)
+part-find-command-start c = omega (arith, stands c)
 
 part-find-command-end : tie.Need-part-find-command-end
-part-find-command-end c = omega (arith, inside (c .word-at .result) (c .before .before .before .args .script .now) (c .before .before .before .args .at) (c .word-at .ensures) (c .before .if1 .left) .0, inside (c .word-at .result) (c .before .before .before .args .script .now) (c .before .before .before .args .at) (c .word-at .ensures) (c .before .if1 .left) .1)
+part-find-command-end c = omega (arith, stands c)
 
 find-command-requires : tie.Need-find-command-requires
 find-command-requires c κs = search needs
@@ -54,15 +97,25 @@ item-of-requires c κs = search needs
 
 returns-2 : tie.Need-returns-2
 unfolding meaning numberOf
-returns-2 c = L.unknown (c .before .before .before .before .before .before .before .args .names .now) (c .before .before .before .before .before .before .before .args .script .now) (c .before .before .before .before .before .before .before .args .at) (c .before .before .before .before .word-at .result) (c .before .before .before .before .word-at .ensures) (sym (c .before .before .find-command .ensures) ∙ c .enum-told .given .1)
+returns-2 c =
+    let looked = c .before .before in
+    unknown _ _ _ _ (looked .before .before .word-at .ensures)
+    (sym (looked .find-command .ensures) ∙ c .enum-told .given .1)
 
 returns-3 : tie.Need-returns-3
 unfolding meaning
-returns-3 c = L.faulty (commandAt (c .before .before .before .before .before .before .before .before .k .given .0 .0)) (c .before .before .before .before .say-all .result) (c .before .before .before .worst-of .result) (c .before .refusal .given .0 .0) (c .before .before .before .worst-of .ensures) (c .before .refusal .given .1) ∙ sym (L.known (c .before .before .before .before .before .before .before .before .before .before .before .before .before .before .before .args .names .now) (c .before .before .before .before .before .before .before .before .before .before .before .before .before .before .before .args .script .now) (c .before .before .before .before .before .before .before .before .before .before .before .before .before .before .before .args .at) (c .before .before .before .before .before .before .before .before .before .before .before .before .word-at .result) (c .before .before .before .before .before .before .before .before .k .given .0 .0) (c .before .before .before .before .before .before .shape-at .result) (c .before .before .before .before .say-all .result) (c .before .before .before .before .before .before .before .before .before .before .before .before .word-at .ensures) (sym (c .before .before .before .before .before .before .before .before .before .before .find-command .ensures) ∙ c .before .before .before .before .before .before .before .before .k .given .1) (c .before .before .before .before .before .before .shape-at .ensures) (c .before .before .before .before .say-all .ensures))
+returns-3 c =
+    let worst = c .before .before .before in
+    faulty (asked (worst .before)) (worst .worst-of .result) _ (worst .worst-of .ensures)
+    (c .before .refusal .given .1)
 
 returns-4 : tie.Need-returns-4
 unfolding meaning
-returns-4 c = L.good (commandAt (c .before .before .before .before .before .before .before .k .given .0 .0)) (c .before .before .before .say-all .result) (c .before .before .worst-of .result) (c .before .before .before .before .make-at .result) (c .item-of .result) (c .before .before .worst-of .ensures) (c .before .match2 .keys2) (c .before .before .before .before .make-at .ensures) (c .item-of .ensures) ∙ sym (L.known (c .before .before .before .before .before .before .before .before .before .before .before .before .before .before .args .names .now) (c .before .before .before .before .before .before .before .before .before .before .before .before .before .before .args .script .now) (c .before .before .before .before .before .before .before .before .before .before .before .before .before .before .args .at) (c .before .before .before .before .before .before .before .before .before .before .before .word-at .result) (c .before .before .before .before .before .before .before .k .given .0 .0) (c .before .before .before .before .before .shape-at .result) (c .before .before .before .say-all .result) (c .before .before .before .before .before .before .before .before .before .before .before .word-at .ensures) (sym (c .before .before .before .before .before .before .before .before .before .find-command .ensures) ∙ c .before .before .before .before .before .before .before .k .given .1) (c .before .before .before .before .before .shape-at .ensures) (c .before .before .before .say-all .ensures))
+returns-4 c =
+    let worst = c .before .before in
+    let makes = worst .before .before .make-at .ensures in
+    good (asked (worst .before)) (worst .worst-of .result) _ (worst .worst-of .ensures) (c .before .match2 .keys2)
+    (rw makes at (c .item-of .ensures))
 
 pub judge-line-spec : {M : Type 1} → statement M
 judge-line-spec =

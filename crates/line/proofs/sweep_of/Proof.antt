@@ -21,7 +21,16 @@ operand-of-requires-4 : tie.Need-operand-of-requires-4
 operand-of-requires-4 c κs = search needs
 
 returns : tie.Need-returns
-returns c = simp (c .operand-of4 .ensures, c .before .operand-of3 .ensures, c .before .before .operand-of2 .ensures, c .before .before .before .operand-of .ensures, c .before .before .before .before .name-of2 .ensures, c .before .before .before .before .before .name-of .ensures)
+returns c =
+    let b = c .before .before .before .before in
+    simp (
+      c .operand-of4 .ensures,
+      c .before .operand-of3 .ensures,
+      c .before .before .operand-of2 .ensures,
+      c .before .before .before .operand-of .ensures,
+      b .name-of2 .ensures,
+      b .before .name-of .ensures,
+    )
 
 pub sweep-of-spec : {M : Type 1} → statement M
 sweep-of-spec =

@@ -23,7 +23,16 @@ worse-of-requires-6 c κs = search needs
 
 returns : tie.Need-returns
 unfolding lowest
-returns c = simp (c .worse-of6 .ensures, c .before .worse-of5 .ensures, c .before .before .worse-of4 .ensures, c .before .before .before .worse-of3 .ensures, c .before .before .before .before .worse-of2 .ensures, c .before .before .before .before .before .worse-of .ensures)
+returns c =
+    let e = c .before .before .before .before in
+    simp (
+      c .worse-of6 .ensures,
+      c .before .worse-of5 .ensures,
+      c .before .before .worse-of4 .ensures,
+      c .before .before .before .worse-of3 .ensures,
+      e .worse-of2 .ensures,
+      e .before .worse-of .ensures,
+    )
 
 pub worst-of-spec : {M : Type 1} → statement M
 worst-of-spec =
