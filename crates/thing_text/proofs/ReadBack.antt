@@ -68,9 +68,9 @@ read-float c s e = rw e
 amount-float : (n : ℕ) → readAmount (hex16 n) ≡ real (ofBits binary64 (readHex16 (hex16 n)))
 unfolding hex16 hex4
 amount-float n =
-    let k = n / 65536 / 65536 / 65536 % 65536 / 4096 % 16 in
+    let k = n / 65536 / 65536 / 65536 % 65536 / 16 / 16 / 16 % 16 in
     read-float (digitOf k) (drop 1 (hex16 n))
-    (no-letter k (mod-lt (n / 65536 / 65536 / 65536 % 65536 / 4096) (omega arith)))
+    (no-letter k (mod-lt (n / 65536 / 65536 / 65536 % 65536 / 16 / 16 / 16) (omega arith)))
 
 amount-back : (v : Value) → SoundValue v → readAmount (amountText v) ≡ v
 unfolding amountText
