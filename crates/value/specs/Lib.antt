@@ -1,4 +1,3 @@
-pub mod Value
 pub mod Arithmetic
 pub mod Literal
 pub mod Code
