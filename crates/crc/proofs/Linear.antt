@@ -1,19 +1,19 @@
 -- The register's shift is linear, so a table serves it; and it stays below 2 ^ 16. Assumes nothing.
-use mathlib.Core.Path.{_≡_, refl, sym, _∙_, ap, ap₂}
+use borrow.Author.Tests.{le-leb, lt-leb}
+use lib.Arith.{bin-ind}
+use lib.Bits.{bitXor, differ, xor-block, xor-comm, xor-lt, xor-mod, xor-shifted, xor-shr, xor-step, xor-zero-r}
+use lib.Dec.{leb}
+use lib.Pow.{pow-pos}
 use mathlib.Core.Bool.{Bool, true, false, cond}
 use mathlib.Core.List.{List, [], _∷_}
-use Prim.Native.Nat.{ℕ, zero, suc, _+_, _*_, _/_, _%_, _^_, _≤_, _<_}
+use mathlib.Core.Path.{_≡_, refl, sym, _∙_, ap, ap₂}
+use native.Mathlib.Decide.{decLe}
 use native.Mathlib.Nat.{mul-assoc, mul-comm, pow-suc, mul-le-mul-left, mul-one, add-zero}
 use native.Mathlib.Omega.{arith}
-use native.Mathlib.Decide.{decLe}
-use lib.Arith.{bin-ind}
-use lib.Pow.{pow-pos}
-use lib.Bits.{bitXor, differ, xor-step, xor-self, xor-comm, xor-zero-l, xor-zero-r, xor-lt, xor-shifted, xor-block, xor-shr, xor-mod}
-use lib.Dec.{leb}
-use borrow.Author.Tests.{le-leb, lt-leb}
+use Prim.Native.Nat.{ℕ, zero, suc, _+_, _*_, _/_, _%_, _^_, _≤_, _<_}
 use Rattle.crc.specs.Crc.{moved, shift, shifts, step, crcFrom}
 
--- ---- exclusive or: associative, and what it does is undone by doing it again
+-- ---- exclusive or is associative
 
 differ-lt : (x y : ℕ) → x < 2 → y < 2 → differ x y < 2
 differ-lt zero y h k = k
@@ -49,31 +49,33 @@ xor-assoc a =
     (λ n ih b d.
     xor-step (bitXor n b) d
     ∙ ap₂ (λ (x y : ℕ). x * 2 + y)
-    (ap (λ (x : ℕ). bitXor x (d / 2)) (xor-half n b) ∙ ih (b / 2) (d / 2) ∙ ap (λ (x : ℕ). bitXor (n / 2) x) (sym (xor-half b d)))
-    (ap (λ (x : ℕ). differ x (d % 2)) (xor-odd n b) ∙ differ-assoc (n % 2) (b % 2) (d % 2) (low n) (low b) (low d) ∙ ap (λ (x : ℕ). differ (n % 2) x) (sym (xor-odd b d)))
+    (ap (λ (x : ℕ). bitXor x (d / 2)) (xor-half n b) ∙ ih (b / 2) (d / 2)
+    ∙ ap (λ (x : ℕ). bitXor (n / 2) x) (sym (xor-half b d)))
+    (ap (λ (x : ℕ). differ x (d % 2)) (xor-odd n b)
+    ∙ differ-assoc (n % 2) (b % 2) (d % 2) (low n) (low b) (low d)
+    ∙ ap (λ (x : ℕ). differ (n % 2) x) (sym (xor-odd b d)))
     ∙ sym (xor-step n (bitXor b d)))
     a
-
-pub xor-undo : (a b : ℕ) → bitXor a (bitXor a b) ≡ b
-xor-undo a b = sym (xor-assoc a a b) ∙ ap (λ (x : ℕ). bitXor x b) (xor-self a) ∙ xor-zero-l b
-
-pub xor-cancel : (a b d : ℕ) → bitXor a b ≡ bitXor a d → b ≡ d
-xor-cancel a b d e = sym (xor-undo a b) ∙ ap (λ (x : ℕ). bitXor a x) e ∙ xor-undo a d
 
 -- ---- the shift is linear in what it does not throw out
 
 xor-double : (x y : ℕ) → bitXor x y * 2 ≡ bitXor (x * 2) (y * 2)
-xor-double x y = sym (ap₂ bitXor (sym (add-zero (x * 2))) (sym (add-zero (y * 2))) ∙ xor-block 1 x y 0 0 (omega arith) (omega arith) ∙ add-zero (bitXor x y * 2))
+xor-double x y =
+    sym
+    (ap₂ bitXor (sym (add-zero (x * 2))) (sym (add-zero (y * 2)))
+    ∙ xor-block 1 x y 0 0 (omega arith) (omega arith) ∙ add-zero (bitXor x y * 2))
 
 moved-xor : (x y : ℕ) → y < 0x8000 → bitXor x y * 2 % 0x10000 ≡ bitXor (x * 2 % 0x10000) (y * 2)
 moved-xor x y h =
     let e : y * 2 % 0x10000 ≡ y * 2 = omega arith in
-    ap (λ (n : ℕ). n % 0x10000) (xor-double x y) ∙ xor-mod (x * 2) (y * 2) 16 ∙ ap (λ (n : ℕ). bitXor (x * 2 % 0x10000) n) e
+    ap (λ (n : ℕ). n % 0x10000) (xor-double x y) ∙ xor-mod (x * 2) (y * 2) 16
+    ∙ ap (λ (n : ℕ). bitXor (x * 2 % 0x10000) n) e
 
 same-top : (x y : ℕ) → y < 0x8000 → leb 0x8000 (bitXor x y) ≡ leb 0x8000 x
 same-top x y h =
     let q : y / 0x8000 ≡ 0 = omega arith in
-    let e : bitXor x y / 0x8000 ≡ x / 0x8000 = xor-shr x y 15 ∙ ap (λ (n : ℕ). bitXor (x / 0x8000) n) q ∙ xor-zero-r (x / 0x8000) in
+    let e : bitXor x y / 0x8000 ≡ x / 0x8000 =
+    xor-shr x y 15 ∙ ap (λ (n : ℕ). bitXor (x / 0x8000) n) q ∙ xor-zero-r (x / 0x8000) in
     by-test x (bitXor x y) (decLe 0x8000 x) e
   where
     by-test : (x z : ℕ) → Dec (0x8000 ≤ x) → z / 0x8000 ≡ x / 0x8000 → leb 0x8000 z ≡ leb 0x8000 x
@@ -84,7 +86,8 @@ abbrev feed : Bool → ℕ → ℕ
 feed t r = cond t (bitXor 0x1021 (moved r)) (moved r)
 
 feed-linear : (t : Bool) (x y : ℕ) → y < 0x8000 → feed t (bitXor x y) ≡ bitXor (feed t x) (y * 2)
-feed-linear true x y h = ap (λ (n : ℕ). bitXor 0x1021 n) (moved-xor x y h) ∙ sym (xor-assoc 0x1021 (x * 2 % 0x10000) (y * 2))
+feed-linear true x y h =
+    ap (λ (n : ℕ). bitXor 0x1021 n) (moved-xor x y h) ∙ sym (xor-assoc 0x1021 (x * 2 % 0x10000) (y * 2))
 feed-linear false x y h = moved-xor x y h
 
 shift-linear : (x y : ℕ) → y < 0x8000 → shift (bitXor x y) ≡ bitXor (shift x) (y * 2)
@@ -95,13 +98,16 @@ pub shifts-linear : (n x y : ℕ) → y * 2 ^ n < 0x10000 → shifts n (bitXor x
 unfolding shifts
 shifts-linear zero x y h = ap (λ (n : ℕ). bitXor x n) (sym (mul-one y))
 shifts-linear (suc n) x y h =
-    let e : y * 2 ^ suc n ≡ y * 2 * 2 ^ n = ap (λ (m : ℕ). y * m) (pow-suc 2 n ∙ mul-comm (2 ^ n) 2) ∙ sym (mul-assoc y 2 (2 ^ n)) in
+    let e : y * 2 ^ suc n ≡ y * 2 * 2 ^ n =
+    ap (λ (m : ℕ). y * m) (pow-suc 2 n ∙ mul-comm (2 ^ n) 2) ∙ sym (mul-assoc y 2 (2 ^ n)) in
     let k : y * 2 * 1 ≤ y * 2 * 2 ^ n = mul-le-mul-left (y * 2) (pow-pos n) in
-    ap (shifts n) (shift-linear x y (omega arith)) ∙ shifts-linear n (shift x) (y * 2) (omega arith) ∙ ap (λ (m : ℕ). bitXor (shifts n (shift x)) m) (sym e)
+    ap (shifts n) (shift-linear x y (omega arith)) ∙ shifts-linear n (shift x) (y * 2) (omega arith)
+    ∙ ap (λ (m : ℕ). bitXor (shifts n (shift x)) m) (sym e)
 
 -- ---- by a table: what a byte adds is the table's entry at the byte over the register's upper half
 
-pub by-table : (r b : ℕ) → r < 0x10000 → step r b ≡ bitXor (r % 0x100 * 0x100) (shifts 8 (bitXor b (r / 0x100) * 0x100))
+pub by-table : (r b : ℕ) → r < 0x10000
+    → step r b ≡ bitXor (r % 0x100 * 0x100) (shifts 8 (bitXor b (r / 0x100) * 0x100))
 unfolding step
 by-table r b h =
     let lo : r % 0x100 < 0x100 = omega arith in

@@ -1,10 +1,10 @@
 -- The table has at each place what eight shifts make of that byte. Assumes nothing.
-use mathlib.Core.Path.{_≡_, _∙_, ap, sym}
-use Prim.Native.Nat.{ℕ, zero, suc, _+_, _*_, _<_}
-use native.Mathlib.Nat.{add-zero, zero-add, add-suc, suc-add, le-of-suc-le-suc, not-suc-le-zero}
 use lib.ListN.{getD}
-use Rattle.crc.specs.Crc.{shifts}
+use mathlib.Core.Path.{_≡_, _∙_, ap, sym}
+use native.Mathlib.Nat.{add-zero, zero-add, add-suc, suc-add, le-of-suc-le-suc, not-suc-le-zero}
+use Prim.Native.Nat.{ℕ, zero, suc, _+_, _*_, _<_}
 use Rattle.crc.specs.Code.{entries}
+use Rattle.crc.specs.Crc.{shifts}
 
 eight : ℕ → ℕ
 eight b = shifts 8 (b * 0x100)

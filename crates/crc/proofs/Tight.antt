@@ -1,6 +1,6 @@
 -- No second answer fits: two answers that both keep the contract of `crc16` are equal. Assumes nothing.
-use mathlib.Core.Path.{_≡_, sym, _∙_}
 use mathlib.Core.List.{List}
+use mathlib.Core.Path.{_≡_, sym, _∙_}
 use Prim.Native.Nat.{ℕ}
 use Rattle.crc.specs.Crc.{crc}
 

@@ -1,9 +1,10 @@
--- 01, Frames: "CRC-16 with polynomial 1021 hex, start FFFF, most significant bit first, no final change". Assumes nothing.
+-- 01, Frames: "CRC-16 with polynomial 1021 hex, start FFFF, most significant bit first, no final change". Assumes
+-- nothing.
+use lib.Bits.{bitXor}
+use lib.Dec.{leb}
 use mathlib.Core.Bool.{cond}
 use mathlib.Core.List.{List, [], _∷_}
 use Prim.Native.Nat.{ℕ, zero, suc, _*_, _%_}
-use lib.Bits.{bitXor}
-use lib.Dec.{leb}
 
 -- the register of 16 bits, one bit to the left
 abbrev pub moved : ℕ → ℕ
