@@ -1,84 +1,116 @@
 -- Laws of a line: by its first byte; judged and known. Assumes nothing.
-use mathlib.Core.Path.{_≡_, refl, sym, _∙_, ap}
-use mathlib.Core.Bool.{Bool, true, false, cond}
-use mathlib.Core.List.{List}
+use borrow.Author.Tests.{eq-eqb, le-leb, ne-eqb}
+use lib.Dec.{eqb, leb}
+use lib.ListN.{getD, length}
+use mathlib.Core.Bool.{Bool, cond, false, true}
+use mathlib.Core.List.{List, [], _∷_}
 use mathlib.Core.Logic.{_⊎_, inl, inr}
+use mathlib.Core.Path.{_≡_, refl, sym}
 use Prim.Native.Nat.{ℕ, _≤_}
-use lib.Dec.{leb, eqb}
-use lib.ListN.{length, getD}
-use borrow.Author.Tests.{le-leb}
-use Rattle.package.specs.declared.Refusal.{Refusal as PartRefusal}
-use Rattle.package.specs.declared.Refusal.the-variants as PartRefusal
-use Rattle.package.specs.declared.Answer.{Answer}
-use Rattle.package.specs.declared.Answer.the-variants as Answer
-use Rattle.package.specs.Package.{Verdict, numberOf, meaning, verdictOf, packageOf}
+use Rattle.package.specs.Package.{Verdict, packageOf, verdictOf}
+use Rattle.reply_line.specs.Code.{laterBy, packageBy}
 use Rattle.reply_line.specs.declared.Kind.the-variants as Kind
-use Rattle.reply_line.specs.declared.Refusal.{Refusal}
-use Rattle.reply_line.specs.declared.Refusal.the-variants as Refusal
-use Rattle.reply_line.specs.declared.Line.{Line}
 use Rattle.reply_line.specs.declared.Line.the-variants as Line
-use Rattle.reply_line.specs.Line.{packageLine, markLine, aloneIn, byFirst, laterLine}
-use Rattle.reply_line.specs.Code.{packageBy, laterBy}
+use Rattle.reply_line.specs.declared.Line.{Line}
+use Rattle.reply_line.specs.declared.Refusal.the-variants as Refusal
+use Rattle.reply_line.specs.declared.Refusal.{Refusal}
+use Rattle.reply_line.specs.Line.{aloneIn, byFirst, laterLine, laterRows, markLine, nonZero, packageLine}
+use Rattle.reply_line.specs.Line.{rowOf, unknown}
+use Rattle.text.proofs.Keys.{Apart, also, none}
+use Rattle.text.specs.Bytes.{ascii, byte}
+use Rattle.text.specs.declared.Hex.the-variants as Hex
 
-pub later-is : (known : Bool) (s : List ℕ) (c : ℕ) → 1 ≤ length s → getD s 0 0 ≡ c → byFirst (packageBy known s) c s ≡ laterBy known s
+-- ---- the code of an error
+
+pub zero-code : (v : ℕ) → v ≡ 0 → Hex.Bad ≡ nonZero (Hex.Number v)
+unfolding nonZero
+zero-code v e = simp (eq-eqb v 0 e)
+
+pub other-code : (v : ℕ) → (v ≡ 0 → ⊥) → Hex.Number v ≡ nonZero (Hex.Number v)
+unfolding nonZero
+other-code v n = simp (ne-eqb v 0 n)
+
+-- ---- a later line, by its first byte
+
+pub later-is : (known : Bool) (s : List ℕ) (c : ℕ) → 1 ≤ length s → getD s 0 0 ≡ c
+    → byFirst (packageBy known s) c s ≡ laterBy known s
 unfolding laterBy
 later-is known s c h e = rw (le-leb 1 (length s) h, e) refl
 
--- a line that is judged is the line
+-- ---- a byte that begins no line
+
+abbrev keys : List (ℕ × Line) → List ℕ
+keys [] = []
+keys (r ∷ rs) = r .0 ∷ keys rs
+
+no-row : {c : ℕ} (rs : List (ℕ × Line)) → Apart c (keys rs) → rowOf c rs ≡ unknown
+no-row [] none = refl
+no-row {c} (r ∷ rs) (also n a) = rw (ne-eqb c (r .0) n) (no-row rs a)
+
+pub no-line : (pk : Line) (c : ℕ) (s : List ℕ) → Apart c (ascii "M*L+PThHYZe") → byFirst pk c s ≡ unknown
+unfolding byFirst
+no-line pk c s a = no-row (laterRows pk s) a
+
+-- ---- a line that is judged is the line
+
 pub judged : (s : List ℕ) → laterBy false s ≡ laterLine s
 unfolding laterBy packageBy laterLine
 judged s = refl
 
 -- ---- a line that is not refused is the same where it is known to be good
 
-same-or-refused : (v : Verdict) → (packageLine v ≡ Line.Package) ⊎ ((r : Refusal) × (packageLine v ≡ Line.Refused r))
+abbrev Refused : Line → Type 0
+Refused l = (r : Refusal) × (l ≡ Line.Refused r)
+
+abbrev judgedPackage : List ℕ → Line
+judgedPackage s = packageLine (verdictOf (packageOf s))
+
+same-or-refused : (v : Verdict) → (packageLine v ≡ Line.Package) ⊎ Refused (packageLine v)
 unfolding packageLine
 same-or-refused v = by-tests (eqb (v .number) 0) (eqb (v .number) 40)
   where
-    by-tests : (a b : Bool) → (cond a Line.Package (cond b (Line.Refused Refusal.BadPart) (Line.Refused Refusal.TooManyParts)) ≡ Line.Package)
-        ⊎ ((r : Refusal) × (cond a Line.Package (cond b (Line.Refused Refusal.BadPart) (Line.Refused Refusal.TooManyParts)) ≡ Line.Refused r))
+    choice : Bool → Bool → Line
+    choice a b = cond a Line.Package (cond b (Line.Refused Refusal.BadPart) (Line.Refused Refusal.TooManyParts))
+
+    by-tests : (a b : Bool) → (choice a b ≡ Line.Package) ⊎ Refused (choice a b)
     by-tests true b = inl refl
     by-tests false true = inr (Refusal.BadPart, refl)
     by-tests false false = inr (Refusal.TooManyParts, refl)
 
-module _ (x₁ x₂ x₃ x₄ x₅ pk : Line) (either : (pk ≡ Line.Package) ⊎ ((r : Refusal) × (pk ≡ Line.Refused r))) where
-  abbrev choice : Bool → Bool → Bool → Bool → Bool → Line → Line
-  choice a b c d e p = cond a x₁ (cond b x₂ (cond c x₃ (cond d x₄ (cond e p x₅))))
-
-  same-choice : (a b c d e : Bool) → ((r : Refusal) → choice a b c d e pk ≡ Line.Refused r → ⊥) → choice a b c d e Line.Package ≡ choice a b c d e pk
-  same-choice true b c d e fine = refl
-  same-choice false true c d e fine = refl
-  same-choice false false true d e fine = refl
-  same-choice false false false true e fine = refl
-  same-choice false false false false false fine = refl
-  same-choice false false false false true fine = by-package either
-    where
-      by-package : (pk ≡ Line.Package) ⊎ ((r : Refusal) × (pk ≡ Line.Refused r)) → Line.Package ≡ pk
-      by-package (inl e) = sym e
-      by-package (inr (r, e)) = absurd (fine r e)
-
-same-first : (c : ℕ) (s : List ℕ) → ((r : Refusal) → byFirst (packageLine (verdictOf (packageOf s))) c s ≡ Line.Refused r → ⊥)
-    → byFirst Line.Package c s ≡ byFirst (packageLine (verdictOf (packageOf s))) c s
+-- a row of the table of first bytes that stands for a package, or for something else
+same-row : (c : ℕ) (pk : Line) (s : List ℕ) → (pk ≡ Line.Package) ⊎ Refused pk
+    → (Refused (byFirst pk c s) → ⊥) → byFirst Line.Package c s ≡ byFirst pk c s
 unfolding byFirst
-same-first c s fine =
-    same-choice (markLine s) (aloneIn s (Line.Closes Kind.Measuring)) (aloneIn s (Line.Opens Kind.Plain 0)) (aloneIn s (Line.Closes Kind.Plain)) _ (packageLine (verdictOf (packageOf s))) (same-or-refused (verdictOf (packageOf s)))
-    (eqb c 0x4D) (eqb c 0x2A) (eqb c 0x4C) (eqb c 0x2B) (eqb c 0x50) fine
+same-row c pk s either fine =
+    go (eqb c (byte "M")) (eqb c (byte "*")) (eqb c (byte "L")) (eqb c (byte "+")) (eqb c (byte "P")) _ fine
+  where
+    choice : Line → Bool → Bool → Bool → Bool → Bool → Line → Line
+    choice p m z l x k o =
+        cond m (markLine s)
+        (cond z (aloneIn s (Line.Closes Kind.Measuring))
+        (cond l (aloneIn s (Line.Opens Kind.Plain 0)) (cond x (aloneIn s (Line.Closes Kind.Plain)) (cond k p o))))
+
+    go : (m z l x k : Bool) (o : Line) → (Refused (choice pk m z l x k o) → ⊥)
+        → choice Line.Package m z l x k o ≡ choice pk m z l x k o
+    go true z l x k o fine = refl
+    go false true l x k o fine = refl
+    go false false true x k o fine = refl
+    go false false false true k o fine = refl
+    go false false false false false o fine = refl
+    go false false false false true o fine = by-package either
+      where
+        by-package : (pk ≡ Line.Package) ⊎ Refused pk → Line.Package ≡ pk
+        by-package (inl e) = sym e
+        by-package (inr r) = absurd (fine r)
 
 pub known-same : (s : List ℕ) → ((r : Refusal) → laterLine s ≡ Line.Refused r → ⊥) → laterBy true s ≡ laterLine s
 unfolding laterBy packageBy laterLine
-known-same s fine = by-test (leb 1 (length s)) fine
+known-same s fine = go (leb 1 (length s)) (λ q. fine (q .0) (q .1))
   where
-    by-test : (b : Bool) → ((r : Refusal) → cond b (byFirst (packageLine (verdictOf (packageOf s))) (getD s 0 0) s) Line.Empty ≡ Line.Refused r → ⊥)
-        → cond b (byFirst Line.Package (getD s 0 0) s) Line.Empty ≡ cond b (byFirst (packageLine (verdictOf (packageOf s))) (getD s 0 0) s) Line.Empty
-    by-test false fine = refl
-    by-test true fine = same-first (getD s 0 0) s fine
+    later : Bool → Line → Line
+    later b pk = cond b (byFirst pk (getD s 0 0) s) Line.Empty
 
--- ---- a package's own answer, at the line
-
-pub bad-package : (a : Answer) (w : PartRefusal) (k : ℕ) {v : Verdict} → a ≡ Answer.Refused w k → w ≡ PartRefusal.BadPart → meaning a ≡ v → Line.Refused Refusal.BadPart ≡ packageLine v
-unfolding packageLine meaning numberOf
-bad-package a w k p q e = ap (λ (w : PartRefusal). packageLine (meaning (Answer.Refused w k))) (sym q) ∙ ap (λ (a : Answer). packageLine (meaning a)) (sym p) ∙ ap packageLine e
-
-pub long-package : (a : Answer) (w : PartRefusal) (k : ℕ) {v : Verdict} → a ≡ Answer.Refused w k → w ≡ PartRefusal.TooManyParts → meaning a ≡ v → Line.Refused Refusal.TooManyParts ≡ packageLine v
-unfolding packageLine meaning numberOf
-long-package a w k p q e = ap (λ (w : PartRefusal). packageLine (meaning (Answer.Refused w k))) (sym q) ∙ ap (λ (a : Answer). packageLine (meaning a)) (sym p) ∙ ap packageLine e
+    go : (b : Bool) → (Refused (later b (judgedPackage s)) → ⊥)
+        → later b Line.Package ≡ later b (judgedPackage s)
+    go false fine = refl
+    go true fine = same-row (getD s 0 0) (judgedPackage s) s (same-or-refused (verdictOf (packageOf s))) fine

@@ -1,13 +1,13 @@
 -- No second answer fits a contract of this crate. Assumes nothing.
-use mathlib.Core.Path.{_≡_, sym, _∙_}
 use mathlib.Core.Bool.{true}
 use mathlib.Core.List.{List}
+use mathlib.Core.Path.{_≡_, sym, _∙_}
 use Prim.Native.Nat.{ℕ}
-use Rattle.reply_line.specs.declared.Kind.{Kind}
-use Rattle.reply_line.specs.declared.Refusal.{Refusal}
-use Rattle.reply_line.specs.declared.Line.{Line}
-use Rattle.reply_line.specs.Line.{numberOf, letterOf, lineAt}
 use Rattle.reply_line.specs.Code.{laterBy}
+use Rattle.reply_line.specs.declared.Kind.{Kind}
+use Rattle.reply_line.specs.declared.Line.{Line}
+use Rattle.reply_line.specs.declared.Refusal.{Refusal}
+use Rattle.reply_line.specs.Line.{numberOf, letterOf, lineAt}
 
 pub only-number : (why : Refusal) (a b : ℕ) → a ≡ numberOf why → b ≡ numberOf why → a ≡ b
 only-number why a b p q = p ∙ sym q

@@ -1,13 +1,13 @@
 -- What only the code's shape needs: its two ways to take a line, judged, and of a reply that is known to be good, where
 -- a package is not read again. Assumes nothing.
+use lib.Dec.{leb}
+use lib.ListN.{length, getD}
 use mathlib.Core.Bool.{Bool, cond}
 use mathlib.Core.List.{List}
 use Prim.Native.Nat.{ℕ}
-use lib.Dec.{leb}
-use lib.ListN.{length, getD}
 use Rattle.package.specs.Package.{verdictOf, packageOf}
-use Rattle.reply_line.specs.declared.Line.{Line}
 use Rattle.reply_line.specs.declared.Line.the-variants as Line
+use Rattle.reply_line.specs.declared.Line.{Line}
 use Rattle.reply_line.specs.Line.{packageLine, byFirst}
 
 unfoldable pub packageBy : Bool → List ℕ → Line

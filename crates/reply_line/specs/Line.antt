@@ -1,20 +1,20 @@
 -- 01, Packages and replies: what one line of a reply is, by itself. Assumes nothing.
+use lib.Dec.{leb, ltb, eqb}
+use lib.ListN.{length, getD}
 use mathlib.Core.Bool.{Bool, _&&_, _||_, cond}
 use mathlib.Core.List.{List, [], _∷_}
 use Prim.Native.Nat.{ℕ}
-use lib.Dec.{leb, ltb, eqb}
-use lib.ListN.{length, getD}
-use Rattle.text.specs.Bytes.{byte}
-use Rattle.text.specs.Hex.{readHex}
-use Rattle.text.specs.declared.Hex.{Hex}
-use Rattle.text.specs.declared.Hex.the-variants as Hex
 use Rattle.package.specs.Package.{Verdict, verdictOf, packageOf}
-use Rattle.reply_line.specs.declared.Kind.{Kind}
 use Rattle.reply_line.specs.declared.Kind.the-variants as Kind
-use Rattle.reply_line.specs.declared.Refusal.{Refusal}
-use Rattle.reply_line.specs.declared.Refusal.the-variants as Refusal
-use Rattle.reply_line.specs.declared.Line.{Line}
+use Rattle.reply_line.specs.declared.Kind.{Kind}
 use Rattle.reply_line.specs.declared.Line.the-variants as Line
+use Rattle.reply_line.specs.declared.Line.{Line}
+use Rattle.reply_line.specs.declared.Refusal.the-variants as Refusal
+use Rattle.reply_line.specs.declared.Refusal.{Refusal}
+use Rattle.text.specs.Bytes.{byte}
+use Rattle.text.specs.declared.Hex.the-variants as Hex
+use Rattle.text.specs.declared.Hex.{Hex}
+use Rattle.text.specs.Hex.{readHex}
 
 -- ---- the table of numbers
 
@@ -86,7 +86,9 @@ markLine s = cond (eqb (length s) 5) (markOf (readHex 4 s 1)) unknown
 
 -- a package, by its own verdict: 40 and 41 are given at the line
 unfoldable pub packageLine : Verdict → Line
-packageLine v = cond (eqb (v .number) 0) Line.Package (cond (eqb (v .number) 40) (Line.Refused Refusal.BadPart) (Line.Refused Refusal.TooManyParts))
+packageLine v =
+    cond (eqb (v .number) 0) Line.Package
+    (cond (eqb (v .number) 40) (Line.Refused Refusal.BadPart) (Line.Refused Refusal.TooManyParts))
 
 unfoldable pub laterError : Hex → Line
 laterError (Hex.Number v) = Line.Error v

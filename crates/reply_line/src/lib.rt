@@ -1,7 +1,8 @@
 // What one line of a reply is, by itself.
 ghost use mathlib.Core.Path.{_≡_};
 ghost use mathlib.Core.Bool.{true};
-ghost use Rattle.reply_line.specs.Line.{numberOf, letterOf, endsError, errorCode, isE, firstLine, aloneIn, markLine, packageLine, laterError, lineAt};
+ghost use Rattle.reply_line.specs.Line.{numberOf, letterOf, endsError, errorCode, isE, firstLine};
+ghost use Rattle.reply_line.specs.Line.{aloneIn, markLine, packageLine, laterError, lineAt};
 ghost use Rattle.reply_line.specs.Code.{laterBy};
 ghost use Rattle.package.specs.Package.{verdictOf, packageOf};
 use text::Hex;

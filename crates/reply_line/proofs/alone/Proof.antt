@@ -1,7 +1,8 @@
+-- `reply_line::alone`: one byte, or none that is known. Assumes nothing.
 use borrow.Author.Tests.{eq-eqb, ne-eqb}
-use Rattle.reply_line.specs.Line.{aloneIn}
 use Rattle.reply_line.proofs.alone.Statement.{statement}
 use Rattle.reply_line.proofs.alone.Tie as tie
+use Rattle.reply_line.specs.Line.{aloneIn}
 
 returns : tie.Need-returns
 unfolding aloneIn

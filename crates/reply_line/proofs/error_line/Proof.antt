@@ -1,8 +1,9 @@
-use mathlib.Core.Path.{sym, _∙_}
-use Rattle.reply_line.specs.Line.{laterError}
+-- `reply_line::error_line`, by the code that was read. Assumes nothing.
 use borrow.Author.Needs.{needs}
+use mathlib.Core.Path.{sym, _∙_}
 use Rattle.reply_line.proofs.error_line.Statement.{statement}
 use Rattle.reply_line.proofs.error_line.Tie as tie
+use Rattle.reply_line.specs.Line.{laterError}
 
 error-code-requires : tie.Need-error-code-requires
 error-code-requires c κs = search needs

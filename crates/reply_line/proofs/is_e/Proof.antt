@@ -1,8 +1,9 @@
-use borrow.Author.Tests.{eq-eqb, ne-eqb}
-use Rattle.reply_line.specs.Line.{isE}
+-- `reply_line::is_e`: one byte, an `e`. Assumes nothing.
 use borrow.Author.Needs.{needs}
+use borrow.Author.Tests.{eq-eqb, ne-eqb}
 use Rattle.reply_line.proofs.is_e.Statement.{statement}
 use Rattle.reply_line.proofs.is_e.Tie as tie
+use Rattle.reply_line.specs.Line.{isE}
 
 shared-slice-read-result : tie.Need-shared-slice-read-result
 shared-slice-read-result c = search needs

@@ -1,12 +1,36 @@
-use mathlib.Core.Bool.{Bool}
-use Rattle.reply_line.specs.Line.{byFirst}
-use Rattle.reply_line.specs.Code.{packageBy, laterBy}
-use Rattle.reply_line.proofs.Lines.{later-is}
-use mathlib.Core.Path.{refl, sym, _∙_, ap}
-use borrow.Author.Tests.{ne-eqb, le-leb, lt-leb}
+-- `reply_line::later_line`, by the first byte. Assumes nothing.
 use borrow.Author.Needs.{needs}
+use borrow.Author.Tests.{lt-leb}
+use lib.ListN.{getD}
+use mathlib.Core.Bool.{Bool}
+use mathlib.Core.List.{List}
+use mathlib.Core.Path.{_≡_, refl, sym, _∙_, ap}
+use Prim.Native.Nat.{ℕ}
 use Rattle.reply_line.proofs.later_line.Statement.{statement}
 use Rattle.reply_line.proofs.later_line.Tie as tie
+use Rattle.reply_line.proofs.Lines.{later-is, no-line}
+use Rattle.reply_line.specs.Code.{laterBy, packageBy}
+use Rattle.reply_line.specs.Line.{byFirst}
+use Rattle.text.proofs.Keys.{apart}
+use Rattle.text.specs.Bytes.{ascii, byte}
+
+-- ---- the places
+
+-- with the first byte
+module _ (c : tie.After-shared-slice-known2) where
+  abbrev start : tie.Start
+  start = c .before .before .before
+
+  abbrev s : List ℕ
+  s = start .args .s .now
+
+  abbrev known : Bool
+  known = start .args .known
+
+  by-first : (x : ℕ) → getD s 0 0 ≡ x → byFirst (packageBy known s) x s ≡ laterBy known s
+  by-first x e = later-is known s x (c .before .if1 .taken) e
+
+-- ---- the needs
 
 shared-slice-read-c : tie.Need-shared-slice-read-c
 shared-slice-read-c c = search needs
@@ -43,55 +67,62 @@ error-line-requires c κs = search needs
 
 returns : tie.Need-returns
 unfolding byFirst
-returns c = c .mark-line .ensures ∙ later-is (c .before .before .before .before .before .args .known) (c .before .before .before .before .before .args .s .now) 0x4D (c .before .before .before .if1 .taken) (c .before .match .keys1)
+returns c = c .mark-line .ensures ∙ by-first (c .before .before) (byte "M") (c .before .match .keys1)
 
 returns-2 : tie.Need-returns-2
 unfolding byFirst
-returns-2 c = c .alone .ensures ∙ later-is (c .before .before .before .before .before .args .known) (c .before .before .before .before .before .args .s .now) 0x2A (c .before .before .before .if1 .taken) (c .before .match .keys2)
+returns-2 c = c .alone .ensures ∙ by-first (c .before .before) (byte "*") (c .before .match .keys2)
 
 returns-3 : tie.Need-returns-3
 unfolding byFirst
-returns-3 c = c .alone2 .ensures ∙ later-is (c .before .before .before .before .before .args .known) (c .before .before .before .before .before .args .s .now) 0x4C (c .before .before .before .if1 .taken) (c .before .match .keys3)
+returns-3 c = c .alone2 .ensures ∙ by-first (c .before .before) (byte "L") (c .before .match .keys3)
 
 returns-4 : tie.Need-returns-4
 unfolding byFirst
-returns-4 c = c .alone3 .ensures ∙ later-is (c .before .before .before .before .before .args .known) (c .before .before .before .before .before .args .s .now) 0x2B (c .before .before .before .if1 .taken) (c .before .match .keys4)
+returns-4 c = c .alone3 .ensures ∙ by-first (c .before .before) (byte "+") (c .before .match .keys4)
 
 returns-5 : tie.Need-returns-5
 unfolding byFirst packageBy
-returns-5 c = sym (ap (λ (b : Bool). packageBy b (c .before .before .before .before .before .args .s .now)) (c .if2 .taken)) ∙ later-is (c .before .before .before .before .before .args .known) (c .before .before .before .before .before .args .s .now) 0x50 (c .before .before .before .if1 .taken) (c .before .match .keys5)
+returns-5 c =
+    let d = c .before .before in
+    sym (ap (λ (b : Bool). packageBy b (s d)) (c .if2 .taken)) ∙ by-first d (byte "P") (c .before .match .keys5)
 
 returns-6 : tie.Need-returns-6
 unfolding byFirst packageBy
-returns-6 c = c .package-line .ensures ∙ sym (ap (λ (b : Bool). packageBy b (c .before .before .before .before .before .before .args .s .now)) (c .before .if2 .left)) ∙ later-is (c .before .before .before .before .before .before .args .known) (c .before .before .before .before .before .before .args .s .now) 0x50 (c .before .before .before .before .if1 .taken) (c .before .before .match .keys5)
+returns-6 c =
+    let d = c .before .before .before in
+    c .package-line .ensures ∙ sym (ap (λ (b : Bool). packageBy b (s d)) (c .before .if2 .left))
+    ∙ by-first d (byte "P") (c .before .before .match .keys5)
 
 returns-7 : tie.Need-returns-7
 unfolding byFirst
-returns-7 c = later-is (c .before .before .before .before .args .known) (c .before .before .before .before .args .s .now) 0x54 (c .before .before .if1 .taken) (c .match .keys6)
+returns-7 c = by-first (c .before) (byte "T") (c .match .keys6)
 
 returns-8 : tie.Need-returns-8
 unfolding byFirst
-returns-8 c = c .alone4 .ensures ∙ later-is (c .before .before .before .before .before .args .known) (c .before .before .before .before .before .args .s .now) 0x68 (c .before .before .before .if1 .taken) (c .before .match .keys7)
+returns-8 c = c .alone4 .ensures ∙ by-first (c .before .before) (byte "h") (c .before .match .keys7)
 
 returns-9 : tie.Need-returns-9
 unfolding byFirst
-returns-9 c = c .alone5 .ensures ∙ later-is (c .before .before .before .before .before .args .known) (c .before .before .before .before .before .args .s .now) 0x48 (c .before .before .before .if1 .taken) (c .before .match .keys8)
+returns-9 c = c .alone5 .ensures ∙ by-first (c .before .before) (byte "H") (c .before .match .keys8)
 
 returns-10 : tie.Need-returns-10
 unfolding byFirst
-returns-10 c = c .alone6 .ensures ∙ later-is (c .before .before .before .before .before .args .known) (c .before .before .before .before .before .args .s .now) 0x59 (c .before .before .before .if1 .taken) (c .before .match .keys9)
+returns-10 c = c .alone6 .ensures ∙ by-first (c .before .before) (byte "Y") (c .before .match .keys9)
 
 returns-11 : tie.Need-returns-11
 unfolding byFirst
-returns-11 c = c .alone7 .ensures ∙ later-is (c .before .before .before .before .before .args .known) (c .before .before .before .before .before .args .s .now) 0x5A (c .before .before .before .if1 .taken) (c .before .match .keys10)
+returns-11 c = c .alone7 .ensures ∙ by-first (c .before .before) (byte "Z") (c .before .match .keys10)
 
 returns-12 : tie.Need-returns-12
 unfolding byFirst
-returns-12 c = c .error-line .ensures ∙ later-is (c .before .before .before .before .before .args .known) (c .before .before .before .before .before .args .s .now) 0x65 (c .before .before .before .if1 .taken) (c .before .match .keys11)
+returns-12 c = c .error-line .ensures ∙ by-first (c .before .before) (byte "e") (c .before .match .keys11)
 
 returns-13 : tie.Need-returns-13
-unfolding laterBy byFirst
-returns-13 c = rw (le-leb _ _ (c .before .before .if1 .taken), ne-eqb _ 0x4D (c .match .rest .0 .0 .0 .0 .0 .0 .0 .0 .0 .0 .1), ne-eqb _ 0x2A (c .match .rest .0 .0 .0 .0 .0 .0 .0 .0 .0 .1), ne-eqb _ 0x4C (c .match .rest .0 .0 .0 .0 .0 .0 .0 .0 .1), ne-eqb _ 0x2B (c .match .rest .0 .0 .0 .0 .0 .0 .0 .1), ne-eqb _ 0x50 (c .match .rest .0 .0 .0 .0 .0 .0 .1), ne-eqb _ 0x54 (c .match .rest .0 .0 .0 .0 .0 .1), ne-eqb _ 0x68 (c .match .rest .0 .0 .0 .0 .1), ne-eqb _ 0x48 (c .match .rest .0 .0 .0 .1), ne-eqb _ 0x59 (c .match .rest .0 .0 .1), ne-eqb _ 0x5A (c .match .rest .0 .1), ne-eqb _ 0x65 (c .match .rest .1)) refl
+returns-13 c =
+    let d = c .before in
+    let other = apart (getD (s d) 0 0) (ascii "M*L+PThHYZe") _ (c .match .rest) in
+    sym (no-line (packageBy (known d) (s d)) _ (s d) other) ∙ by-first d _ refl
 
 returns-14 : tie.Need-returns-14
 unfolding laterBy

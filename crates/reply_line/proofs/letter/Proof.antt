@@ -1,8 +1,9 @@
-use mathlib.Core.Path.{sym, ap}
-use Rattle.reply_line.specs.Line.{letterOf}
+-- `reply_line::letter`, kind by kind. Assumes nothing.
 use borrow.Author.Needs.{needs}
+use mathlib.Core.Path.{sym, ap}
 use Rattle.reply_line.proofs.letter.Statement.{statement}
 use Rattle.reply_line.proofs.letter.Tie as tie
+use Rattle.reply_line.specs.Line.{letterOf}
 
 enum-told : tie.Need-enum-told
 enum-told c = search needs

@@ -1,10 +1,11 @@
-use Rattle.reply_line.specs.Line.{lineAt}
-use Rattle.reply_line.proofs.Lines.{judged}
-use mathlib.Core.Path.{_∙_}
-use borrow.Author.Tests.{eq-eqb, ne-eqb}
+-- `reply_line::line_at`: the first line, or a later one, judged. Assumes nothing.
 use borrow.Author.Needs.{needs}
+use borrow.Author.Tests.{eq-eqb, ne-eqb}
+use mathlib.Core.Path.{_∙_}
 use Rattle.reply_line.proofs.line_at.Statement.{statement}
 use Rattle.reply_line.proofs.line_at.Tie as tie
+use Rattle.reply_line.proofs.Lines.{judged}
+use Rattle.reply_line.specs.Line.{lineAt}
 
 first-line-requires : tie.Need-first-line-requires
 first-line-requires c κs = search needs

@@ -1,8 +1,9 @@
-use mathlib.Core.Path.{sym, ap}
-use Rattle.reply_line.specs.Line.{numberOf}
+-- `reply_line::number`, refusal by refusal. Assumes nothing.
 use borrow.Author.Needs.{needs}
+use mathlib.Core.Path.{sym, ap}
 use Rattle.reply_line.proofs.number.Statement.{statement}
 use Rattle.reply_line.proofs.number.Tie as tie
+use Rattle.reply_line.specs.Line.{numberOf}
 
 enum-told : tie.Need-enum-told
 enum-told c = search needs
