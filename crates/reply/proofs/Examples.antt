@@ -1,12 +1,14 @@
 -- 01's listing, computed. Assumes nothing.
-use mathlib.Core.Path.{_≡_, refl}
 use mathlib.Core.List.{List, [], _∷_}
+use mathlib.Core.Path.{_≡_, refl}
 use Prim.Native.Nat.{ℕ}
 use Rattle.text.specs.Cut.{cut}
 use Rattle.text.specs.Hex.{digitValue, hexFrom, readHex}
 use Rattle.reply_line.specs.declared.Kind.the-variants as Kind
-use Rattle.reply_line.specs.Line.{numberOf, letterOf, aloneIn, markOf, markLine, withRow, isE, firstLine, byFirst, laterLine, lineAt}
-use Rattle.reply.specs.Reply.{read, refusal, meaning, closes, step, verdictFrom, verdict, outcomeOf}
+use Rattle.reply_line.specs.Line.{numberOf, letterOf, aloneIn, markOf, markLine, withRow, isE, firstLine}
+use Rattle.reply_line.specs.Line.{byFirst, laterLine, lineAt}
+use Rattle.reply_step.specs.Step.{closes, step}
+use Rattle.reply.specs.Reply.{read, refusal, meaning, verdictFrom, verdict, outcomeOf}
 use Rattle.reply.specs.Rows.{scriptRow, newRow, rowsAfter, insideAfter, rowsFrom, rowsOf}
 
 -- lines `e`, `M0000`, `*`, empty: an empty loop is still a row
@@ -14,18 +16,22 @@ abbrev listed : List ℕ
 listed = 0x65 ∷ 10 ∷ 0x4D ∷ 0x30 ∷ 0x30 ∷ 0x30 ∷ 0x30 ∷ 10 ∷ 0x2A ∷ 10 ∷ 10 ∷ []
 
 pub listed-outcome : outcomeOf 1024 listed ≡ read 0 11 2
-unfolding outcomeOf meaning verdict verdictFrom step closes letterOf lineAt firstLine laterLine byFirst isE withRow aloneIn markLine markOf readHex hexFrom digitValue cut
+unfolding outcomeOf meaning verdict verdictFrom step closes letterOf lineAt firstLine laterLine byFirst isE withRow
+    aloneIn markLine markOf readHex hexFrom digitValue cut
 listed-outcome = refl
 
 pub listed-rows : rowsOf 1024 listed ≡ scriptRow ∷ newRow Kind.Measuring 0 0 ∷ []
-unfolding rowsOf rowsFrom rowsAfter insideAfter step closes letterOf lineAt firstLine laterLine byFirst isE withRow aloneIn markLine markOf readHex hexFrom digitValue cut
+unfolding rowsOf rowsFrom rowsAfter insideAfter step closes letterOf lineAt firstLine laterLine byFirst isE withRow
+    aloneIn markLine markOf readHex hexFrom digitValue cut
 listed-rows = refl
 
 -- `e`, `L`, empty: open at the end, 52; without the empty line 50, one more than the lines read
 pub left-open : outcomeOf 1024 (0x65 ∷ 10 ∷ 0x4C ∷ 10 ∷ 10 ∷ []) ≡ refusal 52 3
-unfolding outcomeOf meaning numberOf verdict verdictFrom step closes letterOf lineAt firstLine laterLine byFirst isE withRow aloneIn cut
+unfolding outcomeOf meaning numberOf verdict verdictFrom step closes letterOf lineAt firstLine laterLine byFirst isE
+    withRow aloneIn cut
 left-open = refl
 
 pub cut-short : outcomeOf 1024 (0x65 ∷ 10 ∷ 0x4C ∷ 10 ∷ []) ≡ refusal 50 3
-unfolding outcomeOf meaning numberOf verdict verdictFrom step closes letterOf lineAt firstLine laterLine byFirst isE withRow aloneIn cut
+unfolding outcomeOf meaning numberOf verdict verdictFrom step closes letterOf lineAt firstLine laterLine byFirst isE
+    withRow aloneIn cut
 cut-short = refl

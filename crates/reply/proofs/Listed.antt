@@ -1,23 +1,28 @@
--- The second pass over lent numbers: a row is read back from its four, and what is put there is the definition's.
+-- Rows in front of lent numbers, four a row: a row is read back and put, so the second pass writes the definition's.
 -- Assumes nothing.
-use mathlib.Core.Path.{_≡_, refl, sym, _∙_, ap, ap₂}
 use mathlib.Core.Bool.{false}
 use mathlib.Core.List.{List, [], _∷_, _++_, append-assoc, append-nil}
-use Prim.Native.Nat.{ℕ, zero, suc, _+_, _*_, _/_, _<_, _≤_}
+use mathlib.Core.Path.{_≡_, refl, sym, _∙_, ap, ap₂}
 use native.Mathlib.Nat.{suc-add, mod-eq-of-lt}
 use native.Mathlib.Omega.{arith}
+use Prim.Native.Nat.{ℕ, zero, suc, _+_, _*_, _/_, _<_, _≤_}
+use borrow.Author.Tests.{lt-ltb, eq-eqb, ne-eqb}
 use lib.Dec.{eqb}
 use lib.ListN.{length, take, drop, getD, set, length-set}
-use borrow.Author.Tests.{lt-ltb, eq-eqb, ne-eqb}
 use Rattle.text.specs.Put.{put}
 use Rattle.text.proofs.Put.{length-put, put-more}
 use Rattle.reply_line.specs.declared.Kind.{Kind}
 use Rattle.reply_line.specs.declared.Kind.the-variants as Kind
 use Rattle.reply_line.specs.Line.{letterOf}
+use Rattle.reply.specs.declared.Answer.{Answer}
+use Rattle.reply.specs.declared.Answer.the-variants as Answer
 use Rattle.reply.specs.declared.Row.{Row}
-use Rattle.reply.specs.Rows.{scriptRow}
-use Rattle.reply.specs.Numbers.{fourOf, listed, kindOf, rowAt, rowIn}
-use Rattle.reply.specs.Code.{cutRow, putRow}
+use Rattle.reply.specs.Code.{cutRow, putRow, fours}
+use Rattle.reply.specs.Numbers.{fourOf, listed, roomIn, numbersAfter, numbersOf, kindOf, rowAt, rowIn}
+use Rattle.reply.specs.Reply.{verdict}
+use Rattle.reply.specs.Rows.{scriptRow, rowsOf}
+use Rattle.reply.proofs.Pass.{Small, Shows}
+use Rattle.reply.proofs.Whole.{after, whole, whole-is}
 
 -- ---- rows in front of lent numbers
 
@@ -113,11 +118,6 @@ row-back lent rows i h fit =
 
 -- ---- a row that is put among them
 
--- its counts fit 32 bits
-pub record Small (r : Row) : Type 0 where
-  pub parent : r .parent < 4294967296
-  pub packages : r .packages < 4294967296
-
 whole-row : (r : Row) → Small r → cutRow r ≡ fourOf r
 unfolding cutRow fourOf
 whole-row r small =
@@ -171,8 +171,36 @@ put-next lent rows r fit small =
     ∙ put-more lent (listed rows) (fourOf r) 0 (length rows * 4) (omega (arith, length-listed rows)) fit
     ∙ ap (λ (vs : List ℕ). put lent 0 vs) (sym (listed-more rows r))
 
--- the script's row, in front of all
-pub put-first : (lent : List ℕ) → 4 ≤ length lent
-    → putRow lent 0 scriptRow ≡ put lent 0 (listed (scriptRow ∷ []))
-unfolding putRow cutRow listed fourOf
-put-first lent h = refl
+-- as many numbers as before
+pub same-size : (lent : List ℕ) (at : ℕ) (r : Row) → at * 4 + 4 ≤ length lent → length (putRow lent at r) ≡ length lent
+unfolding putRow cutRow
+same-size lent at r h = length-put lent (cutRow r) (at * 4) h
+
+-- ---- the pass over lent numbers
+
+abbrev shown : List ℕ → List Row → List ℕ
+shown lent rows = put lent 0 (listed rows)
+
+room-for : (m n : ℕ) → n ≤ m / 4 → n * 4 ≤ m
+room-for m n h = omega arith
+
+pub shows-fours : (lent : List ℕ) → Shows fours (roomIn lent) (shown lent)
+shows-fours lent =
+    record {
+      reads = λ rows i fit h. row-back lent rows i h (room-for (length lent) (length rows) fit);
+      over = λ rows i r h small. put-over lent rows i r h small;
+      behind = λ rows r h small. put-next lent rows r (room-for (length lent) (length rows) (omega arith)) small;
+    }
+
+none-listed : (lent : List ℕ) → shown lent [] ≡ lent
+unfolding listed put
+none-listed lent = refl
+
+pub numbers-are : (s lent : List ℕ) → whole fours s (roomIn lent) lent ≡ numbersOf s lent
+unfolding numbersOf numbersAfter listed put
+numbers-are s lent = whole-is (shows-fours lent) s ∙ by-answer (verdict (roomIn lent) s)
+  where
+    by-answer : (v : Answer)
+        → after v (shown lent (rowsOf (roomIn lent) s)) lent ≡ numbersAfter v (rowsOf (roomIn lent) s) lent
+    by-answer (Answer.Read c u r) = refl
+    by-answer (Answer.Refused w l) = refl

@@ -1,62 +1,32 @@
--- Laws of the rows: one more than opening marks; their packages are the package lines; a parent stands before its row. Assumes nothing.
-use mathlib.Core.Path.{_≡_, refl, sym, _∙_, ap, subst}
-use mathlib.Core.Bool.{Bool, true, false, cond}
+-- Laws of the rows: one more than opening marks; their packages are the package lines; a parent stands before its row;
+-- the answer counts them. Assumes nothing.
 use mathlib.Core.List.{List, [], _∷_, _++_}
-use Prim.Native.Nat.{ℕ, zero, suc, _+_, _≤_, _<_}
-use native.Mathlib.Omega.{arith}
+use mathlib.Core.Path.{_≡_, refl, sym, _∙_, ap, subst}
 use native.Mathlib.Decide.{decLt}
-use lib.Dec.{ltb, leb}
+use native.Mathlib.Omega.{arith}
+use Prim.Native.Nat.{ℕ, zero, suc, _+_, _≤_, _<_}
 use lib.ListN.{length, getD, set, length-set, length-append, List·getD-append, List·getD-eq-default}
 use lib.Seq.{getD-set-same, getD-set-other, getD-at}
 use Rattle.text.specs.Cut.{lines}
 use Rattle.reply_line.specs.declared.Kind.{Kind}
-use Rattle.reply_line.specs.declared.Refusal.{Refusal}
-use Rattle.reply_line.specs.declared.Refusal.the-variants as Refusal
 use Rattle.reply_line.specs.declared.Line.{Line}
 use Rattle.reply_line.specs.declared.Line.the-variants as Line
-use Rattle.reply_line.specs.Line.{lineAt}
-use Rattle.reply.specs.declared.Move.{Move}
-use Rattle.reply.specs.declared.Move.the-variants as Move
+use Rattle.reply_step.specs.declared.Move.the-variants as Move
+use Rattle.reply_step.specs.Step.{Open, begun, step, opened, closed}
+use Rattle.reply_step.proofs.Leading.{LeadsOn, openAfter, Onward, onward}
 use Rattle.reply.specs.declared.Answer.{Answer}
 use Rattle.reply.specs.declared.Answer.the-variants as Answer
 use Rattle.reply.specs.declared.Row.{Row}
-use Rattle.reply.specs.Reply.{Open, step, begun, goes, refused, opened, closed, closes, byMove, verdictFrom}
-use Rattle.reply.specs.Rows.{scriptRow, newRow, raised, rowsAfter, insideAfter, whileOn, rowsFrom, rowsOf, seenFrom, seenIn, isOpening, isPackage, countBy, packagesOf}
+use Rattle.reply.specs.Reply.{verdictFrom}
+use Rattle.reply.specs.Rows.{scriptRow, newRow, raised, rowsAfter, insideAfter, rowsOf, seenIn}
+use Rattle.reply.specs.Rows.{isOpening, isPackage, countBy, packagesOf}
+use Rattle.reply.proofs.Course.{Place, past, makesFrom, readsFrom, saysFrom, Done, by-lines}
 
-zero-one : _≡_ {A = ℕ} 0 1 → ⊥
-zero-one z = omega arith
+-- ---- what holds at every line: the rows are counted, the innermost is one of them, and parents stand before their
+-- rows
 
--- ---- how many rows
-
-pub length-after : (l : Line) (at : ℕ) (rows : List Row) → length (rowsAfter l at rows) ≡ length rows + isOpening l
-unfolding rowsAfter isOpening
-length-after Line.Quiet at rows = omega arith
-length-after Line.Empty at rows = omega arith
-length-after Line.Package at rows = length-set rows at (raised (getD rows at scriptRow)) ∙ omega arith
-length-after (Line.Opens k v) at rows = length-append rows (newRow k v at ∷ [])
-length-after (Line.Closes k) at rows = omega arith
-length-after (Line.Error v) at rows = omega arith
-length-after (Line.Refused r) at rows = omega arith
-
-rows-length : (n k : ℕ) (o : Open) (at : ℕ) (rows : List Row) (ls : List (List ℕ)) → length (rowsFrom n k o at rows ls) ≡ length rows + countBy isOpening (seenFrom n k o ls)
-unfolding rowsFrom seenFrom countBy
-rows-length n k o at rows [] = omega arith
-rows-length n k o at rows (l ∷ ls) =
-    by-move (step n (lineAt n k l) o .to) (rowsFrom n (k + 1) (step n (lineAt n k l) o .state) (insideAfter (lineAt n k l) at rows) (rowsAfter (lineAt n k l) at rows) ls) (rowsAfter (lineAt n k l) at rows) (seenFrom n (k + 1) (step n (lineAt n k l) o .state) ls)
-    (rows-length n (k + 1) (step n (lineAt n k l) o .state) (insideAfter (lineAt n k l) at rows) (rowsAfter (lineAt n k l) at rows) ls) (length-after (lineAt n k l) at rows)
-  where
-    by-move : (m : Move) (x y : List Row) (z : List Line) → length x ≡ length y + countBy isOpening z → length y ≡ length rows + isOpening (lineAt n k l)
-        → length (whileOn m x rows) ≡ length rows + countBy isOpening (whileOn m (lineAt n k l ∷ z) [])
-    by-move Move.On x y z p q = omega arith
-    by-move (Move.Ends v) x y z p q = omega arith
-    by-move (Move.Refused r) x y z p q = omega arith
-
--- the count of rows is one more than the opening marks read
-pub rows-counted : (n : ℕ) (s : List ℕ) → length (rowsOf n s) ≡ 1 + countBy isOpening (seenIn n s)
-unfolding rowsOf seenIn
-rows-counted n s = rows-length n 1 begun 0 (scriptRow ∷ []) (lines s)
-
--- ---- what holds at every line: the rows are counted, the innermost is one of them, and parents stand before their rows
+abbrev rowAt : List Row → ℕ → Row
+rowAt rows i = getD rows i scriptRow
 
 pub record Sound (o : Open) (at : ℕ) (rows : List Row) : Type 0 where
   pub counted : o .rows ≡ length rows
@@ -64,86 +34,92 @@ pub record Sound (o : Open) (at : ℕ) (rows : List Row) : Type 0 where
   pub own : getD rows 0 scriptRow .parent ≡ 0
   pub up : (i : ℕ) → i < length rows → 0 < i → getD rows i scriptRow .parent < i
 
-not-on : (r : Refusal) → Move.Refused r ≡ Move.On → ⊥
-not-on r e = zero-one (let z : _≡_ {A = ℕ} 0 1 = cc in z)
+module _ {o : Open} {at : ℕ} {rows : List Row} (g : Sound o at rows) where
+  -- an opening mark: one row more, whose parent is the innermost
+  module _ (k : Kind) (v : ℕ) where
+    abbrev longer : List Row
+    longer = rows ++ (newRow k v at ∷ [])
 
-not-ends : (v : ℕ) → Move.Ends v ≡ Move.On → ⊥
-not-ends v e = zero-one (let z : _≡_ {A = ℕ} 0 1 = cc in z)
+    one-longer : length longer ≡ length rows + 1
+    one-longer = length-append rows (newRow k v at ∷ [])
 
--- an opening mark: one row more, whose parent is the innermost
-sound-open : (o : Open) (at : ℕ) (rows : List Row) (k : Kind) (v : ℕ) → Sound o at rows → Sound (opened k o) (length rows) (rows ++ (newRow k v at ∷ []))
-sound-open o at rows k v g =
-    record {
-      counted = ap (λ (m : ℕ). m + 1) (g .counted) ∙ sym more;
-      inside = omega (arith, more);
-      own = ap (λ (r : Row). r .parent) (List·getD-append rows (newRow k v at ∷ []) scriptRow 0 (omega (arith, g .inside))) ∙ g .own;
-      up = λ i h p. by-place i h p (decLt i (length rows));
-    }
-  where
-    more : length (rows ++ (newRow k v at ∷ [])) ≡ length rows + 1
-    more = length-append rows (newRow k v at ∷ [])
+    same-row : (i : ℕ) → i < length rows → rowAt longer i ≡ rowAt rows i
+    same-row i h = List·getD-append rows (newRow k v at ∷ []) scriptRow i h
 
-    by-place : (i : ℕ) → i < length (rows ++ (newRow k v at ∷ [])) → 0 < i → Dec (i < length rows) → getD (rows ++ (newRow k v at ∷ [])) i scriptRow .parent < i
-    by-place i h p (yes q) = subst (λ (r : Row). r .parent < i) (sym (List·getD-append rows (newRow k v at ∷ []) scriptRow i q)) (g .up i q p)
-    by-place i h p (no q) =
-        let e : length rows ≡ i = omega (arith, more) in
-        subst (λ (r : Row). r .parent < i) (sym (getD-at rows (newRow k v at) [] scriptRow i e)) (subst (λ (m : ℕ). at < m) e (g .inside))
+    parent-before : (i : ℕ) → i < length longer → 0 < i → Dec (i < length rows) → rowAt longer i .parent < i
+    parent-before i h p (yes q) = subst (λ (r : Row). r .parent < i) (sym (same-row i q)) (g .up i q p)
+    parent-before i h p (no q) =
+        let e : length rows ≡ i = omega (arith, one-longer) in
+        subst (λ (r : Row). r .parent < i) (sym (getD-at rows (newRow k v at) [] scriptRow i e))
+        (subst (λ (m : ℕ). at < m) e (g .inside))
 
--- a package: one count is raised, nothing else moves
-pub same-parents : (rows : List Row) (j i : ℕ) → i < length rows → getD (set rows j (raised (getD rows j scriptRow))) i scriptRow .parent ≡ getD rows i scriptRow .parent
-same-parents rows j i h = by-place (decLt i j) (decLt j i)
-  where
-    by-place : Dec (i < j) → Dec (j < i) → getD (set rows j (raised (getD rows j scriptRow))) i scriptRow .parent ≡ getD rows i scriptRow .parent
-    by-place (yes p) q = ap (λ (r : Row). r .parent) (getD-set-other rows j i (raised (getD rows j scriptRow)) scriptRow (λ e. omega arith))
-    by-place (no p) (yes q) = ap (λ (r : Row). r .parent) (getD-set-other rows j i (raised (getD rows j scriptRow)) scriptRow (λ e. omega arith))
-    by-place (no p) (no q) =
-        let e : i ≡ j = omega arith in
-        subst (λ (m : ℕ). getD (set rows j (raised (getD rows j scriptRow))) m scriptRow .parent ≡ getD rows m scriptRow .parent) (sym e)
-        (ap (λ (r : Row). r .parent) (getD-set-same rows j (raised (getD rows j scriptRow)) scriptRow (subst (λ (m : ℕ). m < length rows) e h)))
+    sound-open : Sound (opened k o) (length rows) longer
+    sound-open =
+        record {
+          counted = ap (λ (m : ℕ). m + 1) (g .counted) ∙ sym one-longer;
+          inside = omega (arith, one-longer);
+          own = ap (λ (r : Row). r .parent) (same-row 0 (omega (arith, g .inside))) ∙ g .own;
+          up = λ i h p. parent-before i h p (decLt i (length rows));
+        }
 
-sound-package : (o : Open) (at : ℕ) (rows : List Row) → Sound o at rows → Sound o at (set rows at (raised (getD rows at scriptRow)))
-sound-package o at rows g =
-    record {
-      counted = g .counted ∙ sym same;
-      inside = omega (arith, same, g .inside);
-      own = same-parents rows at 0 (omega (arith, g .inside)) ∙ g .own;
-      up = λ i h p. subst (λ (m : ℕ). m < i) (sym (same-parents rows at i (omega (arith, same)))) (g .up i (omega (arith, same)) p);
-    }
-  where
-    same : length (set rows at (raised (getD rows at scriptRow))) ≡ length rows
-    same = length-set rows at (raised (getD rows at scriptRow))
+  -- a package: one count is raised, nothing else moves
+  abbrev counting : List Row
+  counting = set rows at (raised (rowAt rows at))
 
--- a closing mark leads back to the parent, which is a row too
-sound-close : (o : Open) (at : ℕ) (rows : List Row) → Sound o at rows → Sound (closed o) (getD rows at scriptRow .parent) rows
-sound-close o at rows g = record { counted = g .counted; inside = back at (g .inside); own = g .own; up = g .up }
-  where
-    back : (i : ℕ) → i < length rows → getD rows i scriptRow .parent < length rows
-    back zero h = subst (λ (m : ℕ). m < length rows) (sym (g .own)) h
-    back (suc i) h = omega (arith, g .up (suc i) h (omega arith))
+  as-long : length counting ≡ length rows
+  as-long = length-set rows at (raised (rowAt rows at))
 
-pub sound-step : (n : ℕ) (l : Line) (o : Open) (at : ℕ) (rows : List Row) → step n l o .to ≡ Move.On → Sound o at rows → Sound (step n l o .state) (insideAfter l at rows) (rowsAfter l at rows)
-unfolding step rowsAfter insideAfter
-sound-step n Line.Quiet o at rows e g = g
-sound-step n Line.Empty o at rows e g = by-test (leb 1 (length (o .loops))) e
-  where
-    by-test : (b : Bool) → cond b (refused Refusal.NoMate o) (goes (Move.Ends 0) o) .to ≡ Move.On → Sound (cond b (refused Refusal.NoMate o) (goes (Move.Ends 0) o) .state) at rows
-    by-test true x = absurd (not-on Refusal.NoMate x)
-    by-test false x = absurd (not-ends 0 x)
-sound-step n Line.Package o at rows e g = sound-package o at rows g
-sound-step n (Line.Opens k v) o at rows e g = by-test (ltb (length (o .loops)) 8) (ltb (o .rows) n) e
-  where
-    by-test : (b b′ : Bool) → cond b (cond b′ (goes Move.On (opened k o)) (refused Refusal.ShortTable o)) (refused Refusal.NinthLoop o) .to ≡ Move.On
-        → Sound (cond b (cond b′ (goes Move.On (opened k o)) (refused Refusal.ShortTable o)) (refused Refusal.NinthLoop o) .state) (length rows) (rows ++ (newRow k v at ∷ []))
-    by-test true true x = sound-open o at rows k v g
-    by-test true false x = absurd (not-on Refusal.ShortTable x)
-    by-test false b′ x = absurd (not-on Refusal.NinthLoop x)
-sound-step n (Line.Closes k) o at rows e g = by-test (closes k (o .loops)) e
-  where
-    by-test : (b : Bool) → cond b (goes Move.On (closed o)) (refused Refusal.NoMate o) .to ≡ Move.On → Sound (cond b (goes Move.On (closed o)) (refused Refusal.NoMate o) .state) (getD rows at scriptRow .parent) rows
-    by-test true x = sound-close o at rows g
-    by-test false x = absurd (not-on Refusal.NoMate x)
-sound-step n (Line.Error v) o at rows e g = absurd (not-ends v e)
-sound-step n (Line.Refused r) o at rows e g = absurd (not-on r e)
+  same-parents : (i : ℕ) → i < length rows → rowAt counting i .parent ≡ rowAt rows i .parent
+  same-parents i h = by-place (decLt i at) (decLt at i)
+    where
+      by-place : Dec (i < at) → Dec (at < i) → rowAt counting i .parent ≡ rowAt rows i .parent
+      by-place (yes p) q =
+          ap (λ (r : Row). r .parent)
+          (getD-set-other rows at i (raised (rowAt rows at)) scriptRow (λ e. omega arith))
+      by-place (no p) (yes q) =
+          ap (λ (r : Row). r .parent)
+          (getD-set-other rows at i (raised (rowAt rows at)) scriptRow (λ e. omega arith))
+      by-place (no p) (no q) =
+          let e : i ≡ at = omega arith in
+          subst (λ (m : ℕ). rowAt counting m .parent ≡ rowAt rows m .parent) (sym e)
+          (ap (λ (r : Row). r .parent) (getD-set-same rows at (raised (rowAt rows at)) scriptRow (g .inside)))
+
+  sound-package : Sound o at counting
+  sound-package =
+      record {
+        counted = g .counted ∙ sym as-long;
+        inside = omega (arith, as-long, g .inside);
+        own = same-parents 0 (omega (arith, g .inside)) ∙ g .own;
+        up = λ i h p.
+            subst (λ (m : ℕ). m < i) (sym (same-parents i (omega (arith, as-long))))
+            (g .up i (omega (arith, as-long)) p);
+      }
+
+  -- a closing mark leads back to the parent, which is a row too
+  sound-close : Sound (closed o) (rowAt rows at .parent) rows
+  sound-close = record { counted = g .counted; inside = back at (g .inside); own = g .own; up = g .up }
+    where
+      back : (i : ℕ) → i < length rows → rowAt rows i .parent < length rows
+      back zero h = subst (λ (m : ℕ). m < length rows) (sym (g .own)) h
+      back (suc i) h = omega (arith, g .up (suc i) h (omega arith))
+
+  sound-after : (n : ℕ) (l : Line) → LeadsOn n o l
+      → Sound (openAfter l o) (insideAfter l at rows) (rowsAfter l at rows)
+  unfolding rowsAfter insideAfter
+  sound-after n Line.Quiet y = g
+  sound-after n Line.Empty y = absurd y
+  sound-after n Line.Package y = sound-package
+  sound-after n (Line.Opens k v) y = sound-open k v
+  sound-after n (Line.Closes k) y = sound-close
+  sound-after n (Line.Error v) y = absurd y
+  sound-after n (Line.Refused r) y = absurd y
+
+  pub sound-step : (n : ℕ) (l : Line) → step n l o .to ≡ Move.On
+      → Sound (step n l o .state) (insideAfter l at rows) (rowsAfter l at rows)
+  sound-step n l e =
+      let y : Onward n o l = onward n o l e in
+      subst (λ (x : Open). Sound x (insideAfter l at rows) (rowsAfter l at rows)) (sym (y .state))
+      (sound-after n l (y .may))
 
 pub sound-begun : Sound begun 0 (scriptRow ∷ [])
 sound-begun = record { counted = refl; inside = omega arith; own = refl; up = λ i h p. absurd (none i h p) }
@@ -151,41 +127,25 @@ sound-begun = record { counted = refl; inside = omega arith; own = refl; up = λ
     none : (i : ℕ) → i < 1 → 0 < i → ⊥
     none i h p = omega arith
 
--- ---- a row's parent stands before it, and row 0 is its own
+-- ---- what a line adds
 
-abbrev Rooted : List Row → Type 0
-Rooted x = (getD x 0 scriptRow .parent ≡ 0) × ((i : ℕ) → i < length x → 0 < i → getD x i scriptRow .parent < i)
-
-rooted-from : (n k : ℕ) (o : Open) (at : ℕ) (rows : List Row) (ls : List (List ℕ)) → Sound o at rows → Rooted (rowsFrom n k o at rows ls)
-unfolding rowsFrom
-rooted-from n k o at rows [] g = (g .own, g .up)
-rooted-from n k o at rows (l ∷ ls) g =
-    by-move (step n (lineAt n k l) o .to) (rowsFrom n (k + 1) (step n (lineAt n k l) o .state) (insideAfter (lineAt n k l) at rows) (rowsAfter (lineAt n k l) at rows) ls) refl
-    (λ e. rooted-from n (k + 1) (step n (lineAt n k l) o .state) (insideAfter (lineAt n k l) at rows) (rowsAfter (lineAt n k l) at rows) ls (sound-step n (lineAt n k l) o at rows e g))
-  where
-    by-move : (m : Move) (x : List Row) → step n (lineAt n k l) o .to ≡ m → (step n (lineAt n k l) o .to ≡ Move.On → Rooted x) → Rooted (whileOn m x rows)
-    by-move Move.On x e more = more e
-    by-move (Move.Ends v) x e more = (g .own, g .up)
-    by-move (Move.Refused r) x e more = (g .own, g .up)
-
-rooted : (n : ℕ) (s : List ℕ) → Rooted (rowsOf n s)
-unfolding rowsOf
-rooted n s = rooted-from n 1 begun 0 (scriptRow ∷ []) (lines s) sound-begun
-
-pub parents-before : (n : ℕ) (s : List ℕ) (i : ℕ) → i < length (rowsOf n s) → 0 < i → getD (rowsOf n s) i scriptRow .parent < i
-parents-before n s = rooted n s .1
-
-pub own-parent : (n : ℕ) (s : List ℕ) → getD (rowsOf n s) 0 scriptRow .parent ≡ 0
-own-parent n s = rooted n s .0
-
--- ---- package counts add up to the package lines
+pub length-after : (l : Line) (at : ℕ) (rows : List Row) → length (rowsAfter l at rows) ≡ length rows + isOpening l
+unfolding rowsAfter isOpening
+length-after Line.Quiet at rows = omega arith
+length-after Line.Empty at rows = omega arith
+length-after Line.Package at rows = length-set rows at (raised (rowAt rows at)) ∙ omega arith
+length-after (Line.Opens k v) at rows = length-append rows (newRow k v at ∷ [])
+length-after (Line.Closes k) at rows = omega arith
+length-after (Line.Error v) at rows = omega arith
+length-after (Line.Refused r) at rows = omega arith
 
 total-append : (rows : List Row) (r : Row) → packagesOf (rows ++ (r ∷ [])) ≡ packagesOf rows + r .packages
 unfolding packagesOf
 total-append [] r = omega arith
 total-append (x ∷ rows) r = omega (arith, total-append rows r)
 
-total-raised : (rows : List Row) (j : ℕ) → j < length rows → packagesOf (set rows j (raised (getD rows j scriptRow))) ≡ packagesOf rows + 1
+total-raised : (rows : List Row) (j : ℕ) → j < length rows
+    → packagesOf (set rows j (raised (rowAt rows j))) ≡ packagesOf rows + 1
 unfolding packagesOf
 total-raised [] j h = absurd (none j h)
   where
@@ -194,7 +154,8 @@ total-raised [] j h = absurd (none j h)
 total-raised (x ∷ rows) zero h = omega arith
 total-raised (x ∷ rows) (suc j) h = omega (arith, total-raised rows j (omega arith))
 
-pub total-after : (l : Line) (at : ℕ) (rows : List Row) → at < length rows → packagesOf (rowsAfter l at rows) ≡ packagesOf rows + isPackage l
+pub total-after : (l : Line) (at : ℕ) (rows : List Row) → at < length rows
+    → packagesOf (rowsAfter l at rows) ≡ packagesOf rows + isPackage l
 unfolding rowsAfter isPackage
 total-after Line.Quiet at rows h = omega arith
 total-after Line.Empty at rows h = omega arith
@@ -204,49 +165,122 @@ total-after (Line.Closes k) at rows h = omega arith
 total-after (Line.Error v) at rows h = omega arith
 total-after (Line.Refused r) at rows h = omega arith
 
-totals-from : (n k : ℕ) (o : Open) (at : ℕ) (rows : List Row) (ls : List (List ℕ)) → Sound o at rows → packagesOf (rowsFrom n k o at rows ls) ≡ packagesOf rows + countBy isPackage (seenFrom n k o ls)
-unfolding rowsFrom seenFrom countBy
-totals-from n k o at rows [] g = omega arith
-totals-from n k o at rows (l ∷ ls) g =
-    by-move (step n (lineAt n k l) o .to) (rowsFrom n (k + 1) (step n (lineAt n k l) o .state) (insideAfter (lineAt n k l) at rows) (rowsAfter (lineAt n k l) at rows) ls) (rowsAfter (lineAt n k l) at rows) (seenFrom n (k + 1) (step n (lineAt n k l) o .state) ls) refl
-    (λ e. totals-from n (k + 1) (step n (lineAt n k l) o .state) (insideAfter (lineAt n k l) at rows) (rowsAfter (lineAt n k l) at rows) ls (sound-step n (lineAt n k l) o at rows e g)) (total-after (lineAt n k l) at rows (g .inside))
-  where
-    by-move : (m : Move) (x y : List Row) (z : List Line) → step n (lineAt n k l) o .to ≡ m → (step n (lineAt n k l) o .to ≡ Move.On → packagesOf x ≡ packagesOf y + countBy isPackage z)
-        → packagesOf y ≡ packagesOf rows + isPackage (lineAt n k l) → packagesOf (whileOn m x rows) ≡ packagesOf rows + countBy isPackage (whileOn m (lineAt n k l ∷ z) [])
-    by-move Move.On x y z e p q = omega (arith, p e)
-    by-move (Move.Ends v) x y z e p q = omega arith
-    by-move (Move.Refused r) x y z e p q = omega arith
+pub one-of : (rs : List Row) (i : ℕ) → getD rs i scriptRow .packages ≤ packagesOf rs
+unfolding packagesOf
+one-of [] i = omega arith
+one-of (r ∷ rs) zero = omega arith
+one-of (r ∷ rs) (suc i) = omega (arith, one-of rs i)
 
 pub none-yet : packagesOf (scriptRow ∷ []) ≡ 0
 unfolding packagesOf
 none-yet = refl
 
-packages-from-none : (n : ℕ) (s : List ℕ) → packagesOf (rowsOf n s) ≡ packagesOf (scriptRow ∷ []) + countBy isPackage (seenIn n s)
-unfolding rowsOf seenIn
-packages-from-none n s = totals-from n 1 begun 0 (scriptRow ∷ []) (lines s) sound-begun
+-- ---- from a place on
 
--- the rows' packages are the package lines
-pub packages-counted : (n : ℕ) (s : List ℕ) → packagesOf (rowsOf n s) ≡ countBy isPackage (seenIn n s)
-packages-counted n s = omega (arith, packages-from-none n s, none-yet)
+-- the rows grow by the opening marks, and their packages by the package lines
+pub record Grown (p : Place) (out : List Row) (seen : List Line) : Type 0 where
+  pub rows : length out ≡ length (p .rows) + countBy isOpening seen
+  pub packages : packagesOf out ≡ packagesOf (p .rows) + countBy isPackage seen
 
--- ---- the answer's count is the number of rows
+-- each parent stands before its row, and row 0 is its own
+pub record Rooted (x : List Row) : Type 0 where
+  pub own : getD x 0 scriptRow .parent ≡ 0
+  pub up : (i : ℕ) → i < length x → 0 < i → getD x i scriptRow .parent < i
 
-counts-from : (n k used : ℕ) (o : Open) (at : ℕ) (rows : List Row) (ls : List (List ℕ)) (v u r : ℕ) → Sound o at rows → verdictFrom n k used o ls ≡ Answer.Read v u r → length (rowsFrom n k o at rows ls) ≡ r
-unfolding verdictFrom rowsFrom
-counts-from n k used o at rows [] v u r g e = absurd (zero-one (let z : _≡_ {A = ℕ} 0 1 = cc in z))
-counts-from n k used o at rows (l ∷ ls) v u r g e =
-    by-move (step n (lineAt n k l) o .to) (rowsFrom n (k + 1) (step n (lineAt n k l) o .state) (insideAfter (lineAt n k l) at rows) (rowsAfter (lineAt n k l) at rows) ls) (verdictFrom n (k + 1) (used + length l + 1) (step n (lineAt n k l) o .state) ls) refl e
-    (λ m. counts-from n (k + 1) (used + length l + 1) (step n (lineAt n k l) o .state) (insideAfter (lineAt n k l) at rows) (rowsAfter (lineAt n k l) at rows) ls v u r (sound-step n (lineAt n k l) o at rows m g))
+-- all of it, from a place that is sound
+pub record Right (n : ℕ) (p : Place) (out : List Row) (seen : List Line) (v : Answer) : Type 0 where
+  pub grown : Grown p out seen
+  pub rooted : Rooted out
+  pub counted : {c u r : ℕ} → v ≡ Answer.Read c u r → length out ≡ r
+  pub fits : {c u r : ℕ} → p .state .rows ≤ n → v ≡ Answer.Read c u r → r ≤ n
+
+abbrev SoundAt : Place → Type 0
+SoundAt p = Sound (p .state) (p .inside) (p .rows)
+
+right-done : (n : ℕ) (p : Place) (v : Answer) → Done p v → SoundAt p → Right n p (p .rows) [] v
+unfolding countBy
+right-done n p v d g =
+    record {
+      grown = record { rows = omega arith; packages = omega arith };
+      rooted = record { own = g .own; up = g .up };
+      counted = λ e. sym (g .counted) ∙ d .counted e;
+      fits = λ h e. omega (arith, d .counted e, h);
+    }
+
+-- an opening mark that leads on has its row
+still-fits : (n : ℕ) (l : Line) (o : Open) → Onward n o l → o .rows ≤ n → step n l o .state .rows ≤ n
+still-fits n l o y h = subst (λ (x : Open). x .rows ≤ n) (sym (y .state)) (by-line l (y .may))
   where
-    by-move : (m : Move) (x : List Row) (y : Answer) → step n (lineAt n k l) o .to ≡ m → byMove m y k (used + length l + 1) (o .rows) ≡ Answer.Read v u r
-        → (step n (lineAt n k l) o .to ≡ Move.On → y ≡ Answer.Read v u r → length x ≡ r) → length (whileOn m x rows) ≡ r
-    by-move Move.On x y m e p = p m e
-    by-move (Move.Ends w) x y m e p = let q : o .rows ≡ r = cc in sym (g .counted) ∙ q
-    by-move (Move.Refused w) x y m e p = absurd (zero-one (let z : _≡_ {A = ℕ} 0 1 = cc in z))
+    by-line : (l : Line) → LeadsOn n o l → openAfter l o .rows ≤ n
+    by-line Line.Quiet y = h
+    by-line Line.Empty y = h
+    by-line Line.Package y = h
+    by-line (Line.Opens k v) y = omega arith
+    by-line (Line.Closes k) y = h
+    by-line (Line.Error v) y = h
+    by-line (Line.Refused r) y = h
 
-pub answer-counts : (n : ℕ) (s : List ℕ) (v u r : ℕ) → verdictFrom n 1 0 begun (lines s) ≡ Answer.Read v u r → length (rowsOf n s) ≡ r
-unfolding rowsOf
-answer-counts n s v u r e = counts-from n 1 0 begun 0 (scriptRow ∷ []) (lines s) v u r sound-begun e
+right-on : (n : ℕ) (p : Place) (l : Line) (x : ℕ) (out : List Row) (seen : List Line) (v : Answer) → p .used < x
+    → step n l (p .state) .to ≡ Move.On → (SoundAt (past n l x p) → Right n (past n l x p) out seen v)
+    → SoundAt p → Right n p out (l ∷ seen) v
+unfolding countBy
+right-on n p l x out seen v more e rest g =
+    record {
+      grown = record {
+        rows = omega (arith, next .grown .rows, length-after l (p .inside) (p .rows));
+        packages = omega (arith, next .grown .packages, total-after l (p .inside) (p .rows) (g .inside));
+      };
+      rooted = next .rooted;
+      counted = next .counted;
+      fits = λ h. next .fits (still-fits n l (p .state) (onward n (p .state) l e) h);
+    }
+  where
+    next : Right n (past n l x p) out seen v
+    next = rest (sound-step g n l e)
+
+pub right : (n : ℕ) (p : Place) (ls : List (List ℕ)) → SoundAt p
+    → Right n p (makesFrom n p ls) (readsFrom n p ls) (saysFrom n p ls)
+right n = by-lines n (λ p out seen v. SoundAt p → Right n p out seen v) (right-done n) (right-on n)
+
+pub used-more : (n : ℕ) (p : Place) (ls : List (List ℕ)) {c u r : ℕ} → saysFrom n p ls ≡ Answer.Read c u r → p .used < u
+used-more n p ls {c} {u} {r} e =
+    by-lines n (λ p out seen v. v ≡ Answer.Read c u r → p .used < u)
+    (λ p v d. d .farther)
+    (λ p l x out seen v more m rest e. omega (arith, more, rest e))
+    p ls e
+
+-- ---- of a whole reply
+
+-- before the first line
+abbrev pub outset : Place
+outset = record { number = 1; used = 0; state = begun; inside = 0; rows = scriptRow ∷ [] }
+
+module _ (n : ℕ) (s : List ℕ) where
+  from-outset : Right n outset (rowsOf n s) (seenIn n s) (verdictFrom n 1 0 begun (lines s))
+  unfolding rowsOf seenIn
+  from-outset = right n outset (lines s) sound-begun
+
+  -- the count of rows is one more than the opening marks read
+  pub rows-counted : length (rowsOf n s) ≡ 1 + countBy isOpening (seenIn n s)
+  rows-counted = from-outset .grown .rows
+
+  -- the rows' packages are the package lines
+  pub packages-counted : packagesOf (rowsOf n s) ≡ countBy isPackage (seenIn n s)
+  packages-counted = omega (arith, from-outset .grown .packages, none-yet)
+
+  pub parents-before : (i : ℕ) → i < length (rowsOf n s) → 0 < i → getD (rowsOf n s) i scriptRow .parent < i
+  parents-before = from-outset .rooted .up
+
+  pub own-parent : getD (rowsOf n s) 0 scriptRow .parent ≡ 0
+  own-parent = from-outset .rooted .own
+
+  -- the answer's count is the number of rows
+  pub answer-counts : {c u r : ℕ} → verdictFrom n 1 0 begun (lines s) ≡ Answer.Read c u r → length (rowsOf n s) ≡ r
+  answer-counts = from-outset .counted
+
+  -- and no more than the table has
+  pub answer-fits : {c u r : ℕ} → 0 < n → verdictFrom n 1 0 begun (lines s) ≡ Answer.Read c u r → r ≤ n
+  answer-fits some = from-outset .fits some
 
 -- past the last row stands the script's
 pub past-rows : (rows : List Row) (at : ℕ) → length rows ≤ at → scriptRow ≡ getD rows at scriptRow

@@ -24,7 +24,7 @@ use denote.Array.{Array, array-lawful}
 use Rattle.reply.specs.declared.Answer.{Answer}
 use Rattle.reply.specs.declared.Row.{Row}
 use Rattle.reply.specs.declared.Table.{Table}
-use Rattle.reply.proofs.Lend.{into-field}
+use Rattle.laws.proofs.Lend.{into-field}
 use Rattle.reply.proofs.Row as T
 use Rattle.reply.proofs.Row.Laws as T′
 use Rattle.reply.proofs.Answer as An

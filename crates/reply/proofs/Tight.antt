@@ -1,9 +1,9 @@
 -- No second answer fits a contract of this crate, and no second table. Assumes nothing.
-use mathlib.Core.Path.{_≡_, refl, sym, _∙_, ap, ap₂}
+use denote.Ref.{RefT}
 use mathlib.Core.Bool.{cond}
 use mathlib.Core.List.{List}
+use mathlib.Core.Path.{_≡_, refl, sym, _∙_, ap, ap₂}
 use Prim.Native.Nat.{ℕ}
-use native.Mathlib.Omega.{arith}
 use lib.Dec.{eqb}
 use lib.ListN.{getD}
 use Rattle.reply_line.specs.declared.Refusal.{Refusal}
@@ -11,15 +11,15 @@ use Rattle.reply_line.specs.declared.Refusal.the-variants as Refusal
 use Rattle.reply_line.specs.Line.{numberOf}
 use Rattle.reply.specs.declared.Answer.{Answer}
 use Rattle.reply.specs.declared.Answer.the-variants as Answer
+use Rattle.reply.specs.declared.LineReader.{LineReader}
 use Rattle.reply.specs.declared.NextLine.{NextLine}
 use Rattle.reply.specs.declared.Row.{Row}
-use Rattle.reply.specs.Reply.{meaning, outcomeOf}
 use Rattle.reply.specs.declared.Table.{Table}
-use Rattle.reply.specs.Rows.{scriptRow, ReadRows, Tabled, tableMeaning, readTable}
 use Rattle.reply.specs.Lines.{Begins, Serves}
 use Rattle.reply.specs.Numbers.{ReadNumbers, rowIn}
-use denote.Ref.{RefT}
-use Rattle.reply.specs.declared.LineReader.{LineReader}
+use Rattle.reply.specs.Reply.{meaning, outcomeOf}
+use Rattle.reply.specs.Rows.{scriptRow, ReadRows, Tabled, tableMeaning, readTable}
+use Rattle.reply.proofs.Lines.{apart}
 
 -- the refusal that has a number
 named : ℕ → Refusal
@@ -49,14 +49,8 @@ number-injective a b e = sym (named-back a) ∙ ap named e ∙ named-back b
 pub meaning-injective : (a b : Answer) → meaning a ≡ meaning b → a ≡ b
 unfolding meaning
 meaning-injective (Answer.Read c u r) (Answer.Read c′ u′ r′) e = cc
-meaning-injective (Answer.Read c u r) (Answer.Refused w k) e = absurd (none (let z : _≡_ {A = ℕ} 0 1 = cc in z))
-  where
-    none : _≡_ {A = ℕ} 0 1 → ⊥
-    none z = omega arith
-meaning-injective (Answer.Refused w k) (Answer.Read c u r) e = absurd (none (let z : _≡_ {A = ℕ} 0 1 = cc in z))
-  where
-    none : _≡_ {A = ℕ} 0 1 → ⊥
-    none z = omega arith
+meaning-injective (Answer.Read c u r) (Answer.Refused w k) e = absurd (apart cc)
+meaning-injective (Answer.Refused w k) (Answer.Read c u r) e = absurd (apart cc)
 meaning-injective (Answer.Refused w k) (Answer.Refused w′ k′) e =
     let p : numberOf w ≡ numberOf w′ = cc in
     let q : k ≡ k′ = cc in
@@ -78,7 +72,8 @@ only-read-table s a b p q =
     let r : a .rows ≡ b .rows = ap (λ (t : Tabled). t .rows) e in
     λ i. record { rows = r i; answer = v i }
 
-pub only-row-of : (t : Table) (at : ℕ) (a b : Row) → a ≡ getD (t .rows) at scriptRow → b ≡ getD (t .rows) at scriptRow → a ≡ b
+pub only-row-of : (t : Table) (at : ℕ) (a b : Row) → a ≡ getD (t .rows) at scriptRow
+    → b ≡ getD (t .rows) at scriptRow → a ≡ b
 only-row-of t at a b p q = p ∙ sym q
 
 -- the answer, and all the lent numbers

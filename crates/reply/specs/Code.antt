@@ -1,24 +1,16 @@
--- What only the code's shape needs: the open loops as an array and a depth, and the step on them; the second pass over
--- a reply that is known to be good, which row a line is about and what becomes of it, turn by turn, among rows and
--- among numbers. Assumes nothing.
+-- What only the code's shape needs: the second pass over a reply that is known to be good, which row a line is about,
+-- what becomes of it, and the pass turn by turn, over rows and over numbers. Assumes nothing.
 use mathlib.Core.Bool.{true, cond}
 use mathlib.Core.List.{List, [], _∷_}
 use Prim.Native.Nat.{ℕ, zero, suc, _+_, _-_, _*_, _%_}
-use lib.Dec.{leb, ltb}
+use lib.Dec.{ltb}
 use lib.ListN.{take, drop, getD, set}
 use Rattle.text.specs.Put.{put}
-use Rattle.reply_line.specs.declared.Kind.{Kind}
 use Rattle.reply_line.specs.declared.Kind.the-variants as Kind
-use Rattle.reply_line.specs.declared.Refusal.the-variants as Refusal
 use Rattle.reply_line.specs.declared.Line.{Line}
 use Rattle.reply_line.specs.declared.Line.the-variants as Line
 use Rattle.reply_line.specs.Line.{letterOf}
 use Rattle.reply_line.specs.Code.{laterBy}
-use Rattle.reply.specs.declared.Loop.{Loop}
-use Rattle.reply.specs.declared.State.{State}
-use Rattle.reply.specs.declared.Move.{Move}
-use Rattle.reply.specs.declared.Move.the-variants as Move
-use Rattle.reply.specs.declared.Step.{Step}
 use Rattle.reply.specs.declared.NextLine.{NextLine}
 use Rattle.reply.specs.declared.NextLine.the-variants as NextLine
 use Rattle.reply.specs.declared.Answer.{Answer}
@@ -28,55 +20,10 @@ use Rattle.reply.specs.declared.Seen.{Seen}
 use Rattle.reply.specs.declared.Stand.{Stand}
 use Rattle.reply.specs.declared.Change.{Change}
 use Rattle.reply.specs.declared.Turn.{Turn}
-use Rattle.reply.specs.Reply.{closes, Open, Next, verdict}
+use Rattle.reply.specs.Reply.{verdict}
 use Rattle.reply.specs.Rows.{scriptRow, newRow}
 use Rattle.reply.specs.Lines.{nextLine}
 use Rattle.reply.specs.Numbers.{rowIn}
-
--- ---- what the code's state stands for
-
-abbrev pub noLoop : Loop
-noLoop = record { kind = Kind.Script }
-
-unfoldable pub stack : List Loop → ℕ → List Kind
-stack ls zero = []
-stack ls (suc d) = getD ls d noLoop .kind ∷ stack ls d
-
-abbrev pub meant : State → Open
-meant st = record { loops = stack (st .loops) (st .depth); rows = st .rows }
-
-abbrev pub stepped : Step → Next
-stepped s = record { to = s .to; state = meant (s .state) }
-
--- ---- the step on the code's state
-
-abbrev pub to : Move → State → Step
-to m st = record { to = m; state = st }
-
-abbrev pub pushIn : Kind → State → State
-pushIn k st = record { loops = set (st .loops) (st .depth) (record { kind = k }); depth = st .depth + 1; rows = st .rows + 1 }
-
-abbrev pub popIn : State → State
-popIn st = record { loops = st .loops; depth = st .depth - 1; rows = st .rows }
-
-abbrev pub endIn : State → Step
-endIn st = cond (leb 1 (st .depth)) (to (Move.Refused Refusal.NoMate) st) (to (Move.Ends 0) st)
-
-abbrev pub openIn : ℕ → Kind → State → Step
-openIn n k st =
-    cond (ltb (st .depth) 8) (cond (ltb (st .rows) n) (to Move.On (pushIn k st)) (to (Move.Refused Refusal.ShortTable) st)) (to (Move.Refused Refusal.NinthLoop) st)
-
-abbrev pub closeIn : Kind → State → Step
-closeIn k st = cond (closes k (stack (st .loops) (st .depth))) (to Move.On (popIn st)) (to (Move.Refused Refusal.NoMate) st)
-
-unfoldable pub stepIn : ℕ → Line → State → Step
-stepIn n Line.Quiet st = to Move.On st
-stepIn n Line.Empty st = endIn st
-stepIn n Line.Package st = to Move.On st
-stepIn n (Line.Opens k v) st = openIn n k st
-stepIn n (Line.Closes k) st = closeIn k st
-stepIn n (Line.Error v) st = to (Move.Ends v) st
-stepIn n (Line.Refused r) st = to (Move.Refused r) st
 
 -- ---- a line of a reply that is known to be good
 
@@ -126,28 +73,26 @@ clamp n p = cond (ltb p n) p 0
 
 -- ---- where the pass stands
 
--- the first line opens the script's row; a reply that is refused has nothing left to read
-abbrev pub standing : List ℕ → Answer → Stand
-standing s (Answer.Read code used rows) =
+-- at the first line, which opens the script's row
+abbrev pub begunAt : ℕ → ℕ → Answer → Stand
+begunAt used next a =
     record {
       pos = 0;
       end = used;
       line = Line.Opens Kind.Script 0;
-      next = seenAt s used 0 .next;
+      next = next;
       inside = 0;
       rows = 0;
-      answer = Answer.Read code used rows;
+      answer = a;
     }
-standing s (Answer.Refused why line) =
-    record {
-      pos = 0;
-      end = 0;
-      line = Line.Quiet;
-      next = 0;
-      inside = 0;
-      rows = 0;
-      answer = Answer.Refused why line;
-    }
+
+-- a reply that is refused has nothing left to read
+abbrev pub noneLeft : Answer → Stand
+noneLeft a = record { pos = 0; end = 0; line = Line.Quiet; next = 0; inside = 0; rows = 0; answer = a }
+
+abbrev pub standing : List ℕ → Answer → Stand
+standing s (Answer.Read code used rows) = begunAt used (seenAt s used 0 .next) (Answer.Read code used rows)
+standing s (Answer.Refused why line) = noneLeft (Answer.Refused why line)
 
 unfoldable pub startIn : List ℕ → ℕ → Stand
 unfolding verdict seenAt
@@ -157,47 +102,50 @@ unfoldable pub placeIn : Stand → ℕ → ℕ
 unfolding placeBy
 placeIn st n = clamp n (placeBy (st .line) (st .inside) (st .rows))
 
--- the stand after a change
-abbrev pub onward : List ℕ → Stand → Change → Stand
-onward s st c =
+-- the row, and the stand, after a change, with the next line seen
+abbrev pub turnTo : Stand → Change → Seen → Turn
+turnTo st c x =
     record {
-      pos = st .next;
-      end = st .end;
-      line = seenAt s (st .end) (st .next) .line;
-      next = seenAt s (st .end) (st .next) .next;
-      inside = c .inside;
-      rows = c .rows;
-      answer = st .answer;
+      row = c .row;
+      next = record {
+        pos = st .next;
+        end = st .end;
+        line = x .line;
+        next = x .next;
+        inside = c .inside;
+        rows = c .rows;
+        answer = st .answer;
+      };
     }
 
 unfoldable pub turned : List ℕ → Stand → Row → Turn
 unfolding changeBy seenAt
-turned s st old =
-    record {
-      row = changeBy (st .line) (st .inside) (st .rows) old .row;
-      next = onward s st (changeBy (st .line) (st .inside) (st .rows) old);
-    }
+turned s st old = turnTo st (changeBy (st .line) (st .inside) (st .rows) old) (seenAt s (st .end) (st .next))
 
-abbrev pub turnAt : List ℕ → ℕ → Stand → List Row → Turn
-turnAt s n st ys = turned s st (getD ys (placeIn st n) scriptRow)
+-- ---- the pass over a memory of rows: how a row is read from it, and how one is put
 
-abbrev pub rowsAt : List ℕ → ℕ → Stand → List Row → List Row
-rowsAt s n st ys = set ys (placeIn st n) (turnAt s n st ys .row)
+pub record Memory (X : Type 0) : Type 0 where
+  pub get : X → ℕ → Row
+  pub put : X → ℕ → Row → X
 
--- the rows, and the stand, after at most so many turns
-unfoldable pub tableFrom : ℕ → List ℕ → ℕ → Stand → List Row → List Row
-tableFrom zero s n st ys = ys
-tableFrom (suc f) s n st ys =
-    cond (ltb (st .pos) (st .end)) (tableFrom f s n (turnAt s n st ys .next) (rowsAt s n st ys)) ys
+module _ {X : Type 0} (m : Memory X) where
+  abbrev pub turnIn : List ℕ → ℕ → Stand → X → Turn
+  turnIn s n st x = turned s st (m .get x (placeIn st n))
 
-unfoldable pub standFrom : ℕ → List ℕ → ℕ → Stand → List Row → Stand
-standFrom zero s n st ys = st
-standFrom (suc f) s n st ys =
-    cond (ltb (st .pos) (st .end)) (standFrom f s n (turnAt s n st ys .next) (rowsAt s n st ys)) st
+  abbrev pub memoryAfter : List ℕ → ℕ → Stand → X → X
+  memoryAfter s n st x = m .put x (placeIn st n) (turnIn s n st x .row)
 
--- ---- the same pass among numbers, four a row
+  -- the memory after at most so many turns
+  unfoldable pub passFrom : ℕ → List ℕ → ℕ → Stand → X → X
+  passFrom zero s n st x = x
+  passFrom (suc f) s n st x =
+      cond (ltb (st .pos) (st .end)) (passFrom f s n (turnIn s n st x .next) (memoryAfter s n st x)) x
 
--- a count in 32 bits
+-- rows
+abbrev pub table : Memory (List Row)
+table = record { get = λ ys at. getD ys at scriptRow; put = λ ys at r. set ys at r }
+
+-- numbers, four a row; a count in 32 bits
 abbrev pub low : ℕ → ℕ
 low n = n % 4294967296
 
@@ -208,12 +156,5 @@ unfoldable pub putRow : List ℕ → ℕ → Row → List ℕ
 unfolding cutRow
 putRow lent at r = put lent (at * 4) (cutRow r)
 
-abbrev pub turnIn : List ℕ → ℕ → Stand → List ℕ → Turn
-turnIn s n st lent = turned s st (rowIn lent (placeIn st n))
-
--- the numbers after at most so many turns
-unfoldable pub numbersFrom : ℕ → List ℕ → ℕ → Stand → List ℕ → List ℕ
-numbersFrom zero s n st lent = lent
-numbersFrom (suc f) s n st lent =
-    cond (ltb (st .pos) (st .end))
-    (numbersFrom f s n (turnIn s n st lent .next) (putRow lent (placeIn st n) (turnIn s n st lent .row))) lent
+abbrev pub fours : Memory (List ℕ)
+fours = record { get = rowIn; put = putRow }

@@ -1,5 +1,5 @@
--- 01, Packages and replies: the rows. "row 0 is the script, then one row a loop in opening order, with kind, code, parent row and packages
--- directly inside". Assumes nothing.
+-- 01, Packages and replies: the rows. "row 0 is the script, then one row a loop in opening order, with kind, code,
+-- parent row and packages directly inside". Assumes nothing.
 use mathlib.Core.Path.{_≡_}
 use mathlib.Core.List.{List, [], _∷_, _++_}
 use Prim.Native.Nat.{ℕ, _+_}
@@ -10,13 +10,14 @@ use Rattle.reply_line.specs.declared.Kind.the-variants as Kind
 use Rattle.reply_line.specs.declared.Line.{Line}
 use Rattle.reply_line.specs.declared.Line.the-variants as Line
 use Rattle.reply_line.specs.Line.{lineAt}
-use Rattle.reply.specs.declared.Move.{Move}
-use Rattle.reply.specs.declared.Move.the-variants as Move
+use Rattle.reply_step.specs.declared.Move.{Move}
+use Rattle.reply_step.specs.declared.Move.the-variants as Move
+use Rattle.reply_step.specs.Step.{Open, begun, step}
 use Rattle.reply.specs.declared.Row.{Row}
 use Rattle.reply.specs.declared.Answer.{Answer}
 use Rattle.reply.specs.declared.Answer.the-variants as Answer
 use Rattle.reply.specs.declared.Table.{Table}
-use Rattle.reply.specs.Reply.{Open, step, begun, verdict, Outcome, meaning, outcomeOf}
+use Rattle.reply.specs.Reply.{verdict, Outcome, meaning, outcomeOf}
 
 -- the script's row, its own parent, "S and L have code 0000"
 abbrev pub scriptRow : Row
@@ -28,7 +29,9 @@ newRow k v up = record { kind = k; mark = v; parent = up; packages = 0 }
 abbrev pub raised : Row → Row
 raised r = record { kind = r .kind; mark = r .mark; parent = r .parent; packages = r .packages + 1 }
 
--- what a line makes of the rows, inside row `at`: an opening mark appends one, whose parent that is, and a package counts in it
+-- what a line makes of the rows, inside row `at`: an opening mark appends one, whose parent that is, and a package
+-- counts
+-- in it
 unfoldable pub rowsAfter : Line → ℕ → List Row → List Row
 rowsAfter Line.Quiet at rows = rows
 rowsAfter Line.Empty at rows = rows
@@ -59,7 +62,8 @@ unfolding rowsAfter insideAfter
 rowsFrom n k o at rows [] = rows
 rowsFrom n k o at rows (l ∷ ls) =
     whileOn (step n (lineAt n k l) o .to)
-    (rowsFrom n (k + 1) (step n (lineAt n k l) o .state) (insideAfter (lineAt n k l) at rows) (rowsAfter (lineAt n k l) at rows) ls) rows
+    (rowsFrom n (k + 1) (step n (lineAt n k l) o .state) (insideAfter (lineAt n k l) at rows)
+    (rowsAfter (lineAt n k l) at rows) ls) rows
 
 -- the rows of a reply that is read: its first line makes the script's
 unfoldable pub rowsOf : ℕ → List ℕ → List Row
@@ -103,7 +107,9 @@ readTable s = record { outcome = outcomeOf 1024 s; rows = tableOf s (replicate 1
 
 unfoldable pub seenFrom : ℕ → ℕ → Open → List (List ℕ) → List Line
 seenFrom n k st [] = []
-seenFrom n k st (l ∷ ls) = whileOn (step n (lineAt n k l) st .to) (lineAt n k l ∷ seenFrom n (k + 1) (step n (lineAt n k l) st .state) ls) []
+seenFrom n k st (l ∷ ls) =
+    whileOn (step n (lineAt n k l) st .to)
+    (lineAt n k l ∷ seenFrom n (k + 1) (step n (lineAt n k l) st .state) ls) []
 
 unfoldable pub seenIn : ℕ → List ℕ → List Line
 unfolding seenFrom

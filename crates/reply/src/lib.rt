@@ -1,36 +1,20 @@
-// A reply: what its lines do, the verdict on the whole, the rows that the caller lends, and a reader of lines.
+// A reply: the verdict on the whole, the rows that the caller lends, and a reader of lines.
 ghost use mathlib.Core.Path.{_≡_};
-ghost use mathlib.Core.Bool.{false};
-ghost use Prim.Native.Nat.{_+_, _≤_, _<_};
-ghost use lib.ListN.{length, getD};
-ghost use Rattle.reply.specs.Reply.{closes, step, verdict, meaning, outcomeOf};
+ghost use lib.ListN.{getD};
+ghost use Rattle.reply.specs.Reply.{verdict, meaning, outcomeOf};
 ghost use Rattle.reply.specs.Rows.{scriptRow, ReadRows, tableMeaning, readTable};
 ghost use Rattle.reply.specs.Lines.{nextLine, placeAfter, Begins, Serves};
-ghost use Rattle.reply.specs.Code.{meant, stepped, to, endIn, openIn, closeIn, seenAt, placeBy, oneMore};
-ghost use Rattle.reply.specs.Code.{raisedRow, change, changeBy, startIn, placeIn, turned};
+ghost use Rattle.reply.specs.Code.{seenAt, placeBy, oneMore, raisedRow, change, changeBy};
+ghost use Rattle.reply.specs.Code.{startIn, placeIn, turned};
 use reply_line::Kind;
 use reply_line::Line;
 use reply_line::Refusal;
+use reply_step::Move;
 
 pub mod numbers;
 
 // The longest reply.
 const MOST_BYTES: usize = 65536;
-
-// The most open loops.
-const MOST_LOOPS: usize = 8;
-
-// An open loop, by its kind.
-pub struct Loop {
-    pub kind: Kind,
-}
-
-// The open loops, innermost last, and how many rows there are.
-pub struct State {
-    pub loops: [Loop; 8],
-    pub depth: usize,
-    pub rows: usize,
-}
 
 // Row 0 is the script, the others are loops.
 pub struct Row {
@@ -40,17 +24,13 @@ pub struct Row {
     pub packages: usize,
 }
 
-// Where a line leads.
-enum Move {
-    On,
-    Ends(u32),
-    Refused(Refusal),
-}
-
-struct Step {
-    pub to: Move,
-    pub state: State,
-}
+// The script's row before the first package. It stands wherever there is no row.
+const SCRIPT_ROW: Row = Row {
+    kind: Kind::Script,
+    mark: 0,
+    parent: 0,
+    packages: 0,
+};
 
 // A refusal has its line, from 1; 0 where there is none.
 pub enum Answer {
@@ -84,97 +64,6 @@ fn next_line(reply: &[u8], at: usize) -> NextLine
     }
 }
 
-// Whether a mark closes the innermost open loop.
-fn closes_it(k: Kind, st: State) -> bool
-    requires { ⌜ st .depth ≤ 8 ⌝ }
-    ensures { λ r. ⌜ r ≡ closes k (meant st .loops) ⌝ }
-{
-    if st.depth == 0 {
-        return false;
-    }
-    let d = st.depth - 1;
-    let top = st.loops[d];
-    let kind = top.kind;
-    reply_line::letter(kind) == reply_line::letter(k)
-}
-
-// A step: where the line leads, and what is open then.
-fn step_to(lead: Move, st: State) -> Step
-    ensures { λ r. ⌜ r ≡ to lead st ⌝ }
-{
-    Step {
-        to: lead,
-        state: st,
-    }
-}
-
-// An empty line ends the reply where nothing is open.
-fn end_reply(st: State) -> Step
-    ensures { λ r. ⌜ r ≡ endIn st ⌝ }
-{
-    if 1 <= st.depth {
-        step_to(Move::Refused(Refusal::NoMate), st)
-    } else {
-        step_to(Move::Ends(0), st)
-    }
-}
-
-// An opening mark, with n rows to write.
-fn open_loop(k: Kind, st: State, n: usize) -> Step
-    ensures { λ r. ⌜ r ≡ openIn n k st ⌝ }
-{
-    if MOST_LOOPS <= st.depth {
-        return step_to(Move::Refused(Refusal::NinthLoop), st);
-    }
-    if n <= st.rows {
-        return step_to(Move::Refused(Refusal::ShortTable), st);
-    }
-    let d = st.depth;
-    let r = st.rows;
-    let mut loops = st.loops;
-    loops[d] = Loop { kind: k };
-    let inner = State {
-        loops: loops,
-        depth: d + 1,
-        rows: r + 1,
-    };
-    step_to(Move::On, inner)
-}
-
-// A closing mark.
-fn close_loop(k: Kind, st: State) -> Step
-    requires { ⌜ st .depth ≤ 8 ⌝ }
-    ensures { λ r. ⌜ r ≡ closeIn k st ⌝ }
-{
-    if closes_it(k, st) {
-        let loops = st.loops;
-        let outer = State {
-            loops: loops,
-            depth: st.depth - 1,
-            rows: st.rows,
-        };
-        step_to(Move::On, outer)
-    } else {
-        step_to(Move::Refused(Refusal::NoMate), st)
-    }
-}
-
-// What a line does, with n rows to write.
-fn step_of(line: Line, st: State, n: usize) -> Step
-    requires { ⌜ st .depth ≤ 8 ⌝ }
-    ensures { λ r. ⌜ (stepped r ≡ step n line (meant st)) × (r .state .depth ≤ 8) ⌝ }
-{
-    match line {
-        Line::Quiet => step_to(Move::On, st),
-        Line::Package => step_to(Move::On, st),
-        Line::Empty => end_reply(st),
-        Line::Opens(k, _) => open_loop(k, st, n),
-        Line::Closes(k) => close_loop(k, st),
-        Line::Error(v) => step_to(Move::Ends(v), st),
-        Line::Refused(r) => step_to(Move::Refused(r), st),
-    }
-}
-
 // The verdict on a whole reply, for a table of n rows. Nothing is written.
 fn judge(reply: &[u8], n: usize) -> Answer
     ensures { λ r. ⌜ r ≡ verdict n (now (reply .entry)) ⌝ }
@@ -182,11 +71,7 @@ fn judge(reply: &[u8], n: usize) -> Answer
     if MOST_BYTES < reply.len() {
         return Answer::Refused(Refusal::TooLong, 0);
     }
-    let mut st = State {
-        loops: [Loop { kind: Kind::Script }; 8],
-        depth: 0,
-        rows: 1,
-    };
+    let mut st = reply_step::nothing_open();
     let mut at: usize = 0;
     let mut k: usize = 1;
     while at < reply.len() {
@@ -194,7 +79,7 @@ fn judge(reply: &[u8], n: usize) -> Answer
             return Answer::Refused(Refusal::NoEnding, k);
         };
         let line = reply_line::line_at(&reply[start..end], k, n);
-        let step = step_of(line, st, n);
+        let step = reply_step::step_of(line, st, n);
         let to = step.to;
         match to {
             Move::On => {}
@@ -230,7 +115,8 @@ pub struct Seen {
     pub next: usize,
 }
 
-// Where the second pass stands: at a line, read already; where the last line ends; the row of the innermost open loop, and how many rows there are.
+// Where the second pass stands: at a line, read already; where the last line ends; the row of the innermost open loop,
+// and how many rows there are.
 pub struct Stand {
     pub pos: usize,
     pub end: usize,
@@ -342,7 +228,8 @@ fn change_by(line: Line, inside: usize, rows: usize, old: Row) -> Change
     }
 }
 
-// The verdict, and where the second pass starts: the first line opens the script's row. A reply that is refused has nothing left to read.
+// The verdict, and where the second pass starts: the first line opens the script's row. A reply that is refused has
+// nothing left to read.
 fn begin(reply: &[u8], n: usize) -> Stand
     ensures { λ r. ⌜ r ≡ startIn (now (reply .entry)) n ⌝ }
 {
@@ -435,12 +322,7 @@ pub struct Table {
 pub fn read_table(reply: &[u8]) -> Table
     ensures { λ r. ⌜ tableMeaning r ≡ readTable (now (reply .entry)) ⌝ }
 {
-    let mut rows = [Row {
-        kind: Kind::Script,
-        mark: 0,
-        parent: 0,
-        packages: 0,
-    }; 1024];
+    let mut rows = [SCRIPT_ROW; 1024];
     let answer = read_reply(reply, &mut rows);
     Table {
         rows: rows,
@@ -455,12 +337,7 @@ pub fn row_of(table: Table, at: usize) -> Row
     if at < 1024 {
         table.rows[at]
     } else {
-        Row {
-            kind: Kind::Script,
-            mark: 0,
-            parent: 0,
-            packages: 0,
-        }
+        SCRIPT_ROW
     }
 }
 

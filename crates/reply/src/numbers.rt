@@ -53,12 +53,7 @@ pub fn row_in(numbers: &[u32], at: usize) -> Row
     if at < numbers.len() / NUMBERS_A_ROW {
         row_at(numbers, at)
     } else {
-        Row {
-            kind: Kind::Script,
-            mark: 0,
-            parent: 0,
-            packages: 0,
-        }
+        super::SCRIPT_ROW
     }
 }
 

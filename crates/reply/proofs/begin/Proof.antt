@@ -1,5 +1,5 @@
-use Rattle.reply.proofs.Turns.{begins, begins-refused}
 use borrow.Author.Needs.{needs}
+use Rattle.reply.proofs.Turns.{begins, begins-refused}
 use Rattle.reply.proofs.begin.Statement.{statement}
 use Rattle.reply.proofs.begin.Tie as tie
 
@@ -16,10 +16,18 @@ enum-told : tie.Need-enum-told
 enum-told c = search needs
 
 returns : tie.Need-returns
-returns c = begins (c .before .before .before .before .before .before .args .reply .now) (c .before .before .before .before .before .before .args .n) _ _ _ _ _ (c .before .before .before .before .judge .ensures) (c .before .before .answer .given .1) (c .seen-at .ensures)
+returns c =
+    let read = c .before .before in
+    let judged = read .before .before in
+    let start = judged .before .before in
+    begins (start .args .reply .now) (start .args .n) (judged .judge .ensures) (read .answer .given .1)
+    (c .seen-at .ensures)
 
 returns-2 : tie.Need-returns-2
-returns-2 c = begins-refused (c .before .before .before .before .args .reply .now) (c .before .before .before .before .args .n) _ _ _ (c .before .before .judge .ensures) (c .enum-told .given .1)
+returns-2 c =
+    let judged = c .before .before in
+    let start = judged .before .before in
+    begins-refused (start .args .reply .now) (start .args .n) (judged .judge .ensures) (c .enum-told .given .1)
 
 pub begin-spec : {M : Type 1} → statement M
 begin-spec =

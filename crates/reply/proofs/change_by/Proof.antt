@@ -1,12 +1,7 @@
-use mathlib.Core.Path.{sym, _∙_, ap}
-use Prim.Native.Nat.{ℕ}
-use Rattle.reply_line.specs.declared.Line.{Line}
-use Rattle.reply.specs.declared.Row.{Row}
-use Rattle.reply.specs.Rows.{newRow}
-use Rattle.reply.specs.Code.{change, changeBy}
 use borrow.Author.Needs.{needs}
 use Rattle.reply.proofs.change_by.Statement.{statement}
 use Rattle.reply.proofs.change_by.Tie as tie
+use Rattle.reply.specs.Code.{changeBy}
 
 enum-known-line : tie.Need-enum-known-line
 enum-known-line c = search needs
@@ -58,31 +53,31 @@ changed-requires-7 c κs = search needs
 
 returns : tie.Need-returns
 unfolding changeBy
-returns c = c .changed .ensures ∙ (ap (λ (m : ℕ). change (newRow (c .before .before .before .line .given .0 .0) (c .before .before .before .line .given .0 .1 .0) (c .before .before .before .before .before .args .inside)) (c .before .before .before .before .before .args .rows) m) (c .before .one-more .ensures) ∙ ap (λ (l : Line). changeBy l (c .before .before .before .before .before .args .inside) (c .before .before .before .before .before .args .rows) (c .before .before .before .before .before .args .old)) (sym (c .before .before .before .line .given .1)))
+returns c = simp (c .changed .ensures, c .before .one-more .ensures, c .before .before .before .line .given .1)
 
 returns-2 : tie.Need-returns-2
 unfolding changeBy
-returns-2 c = c .changed2 .ensures ∙ ap (λ (l : Line). changeBy l (c .before .before .before .args .inside) (c .before .before .before .args .rows) (c .before .before .before .args .old)) (sym (c .before .enum-told .given .1))
+returns-2 c = simp (c .changed2 .ensures, c .before .enum-told .given .1)
 
 returns-3 : tie.Need-returns-3
 unfolding changeBy
-returns-3 c = c .changed3 .ensures ∙ (ap (λ (r : Row). change r (c .before .before .before .before .args .inside) (c .before .before .before .before .args .rows)) (c .before .raised-row .ensures) ∙ ap (λ (l : Line). changeBy l (c .before .before .before .before .args .inside) (c .before .before .before .before .args .rows) (c .before .before .before .before .args .old)) (sym (c .before .before .enum-told2 .given .1)))
+returns-3 c = simp (c .changed3 .ensures, c .before .raised-row .ensures, c .before .before .enum-told2 .given .1)
 
 returns-4 : tie.Need-returns-4
 unfolding changeBy
-returns-4 c = c .changed4 .ensures ∙ ap (λ (l : Line). changeBy l (c .before .before .before .args .inside) (c .before .before .before .args .rows) (c .before .before .before .args .old)) (sym (c .before .enum-told3 .given .1))
+returns-4 c = simp (c .changed4 .ensures, c .before .enum-told3 .given .1)
 
 returns-5 : tie.Need-returns-5
 unfolding changeBy
-returns-5 c = c .changed5 .ensures ∙ ap (λ (l : Line). changeBy l (c .before .before .before .args .inside) (c .before .before .before .args .rows) (c .before .before .before .args .old)) (sym (c .before .enum-told4 .given .1))
+returns-5 c = simp (c .changed5 .ensures, c .before .enum-told4 .given .1)
 
 returns-6 : tie.Need-returns-6
 unfolding changeBy
-returns-6 c = c .changed6 .ensures ∙ ap (λ (l : Line). changeBy l (c .before .before .before .args .inside) (c .before .before .before .args .rows) (c .before .before .before .args .old)) (sym (c .before .enum-told5 .given .1))
+returns-6 c = simp (c .changed6 .ensures, c .before .enum-told5 .given .1)
 
 returns-7 : tie.Need-returns-7
 unfolding changeBy
-returns-7 c = c .changed7 .ensures ∙ ap (λ (l : Line). changeBy l (c .before .before .before .args .inside) (c .before .before .before .args .rows) (c .before .before .before .args .old)) (sym (c .before .enum-told6 .given .1))
+returns-7 c = simp (c .changed7 .ensures, c .before .enum-told6 .given .1)
 
 pub change-by-spec : {M : Type 1} → statement M
 change-by-spec =

@@ -1,9 +1,7 @@
-use mathlib.Core.Path.{sym, ap}
-use Rattle.reply_line.specs.declared.Line.{Line}
-use Rattle.reply.specs.Code.{placeBy}
 use borrow.Author.Needs.{needs}
 use Rattle.reply.proofs.place_by.Statement.{statement}
 use Rattle.reply.proofs.place_by.Tie as tie
+use Rattle.reply.specs.Code.{placeBy}
 
 enum-told : tie.Need-enum-told
 enum-told c = search needs
@@ -28,31 +26,31 @@ enum-told-7 c = search needs
 
 returns : tie.Need-returns
 unfolding placeBy
-returns c = ap (λ (l : Line). placeBy l (c .before .before .args .inside) (c .before .before .args .rows)) (sym (c .enum-told .given .1))
+returns c = simp (c .enum-told .given .1)
 
 returns-2 : tie.Need-returns-2
 unfolding placeBy
-returns-2 c = ap (λ (l : Line). placeBy l (c .before .before .args .inside) (c .before .before .args .rows)) (sym (c .enum-told2 .given .1))
+returns-2 c = simp (c .enum-told2 .given .1)
 
 returns-3 : tie.Need-returns-3
 unfolding placeBy
-returns-3 c = ap (λ (l : Line). placeBy l (c .before .before .args .inside) (c .before .before .args .rows)) (sym (c .enum-told3 .given .1))
+returns-3 c = simp (c .enum-told3 .given .1)
 
 returns-4 : tie.Need-returns-4
 unfolding placeBy
-returns-4 c = ap (λ (l : Line). placeBy l (c .before .before .args .inside) (c .before .before .args .rows)) (sym (c .enum-told4 .given .1))
+returns-4 c = simp (c .enum-told4 .given .1)
 
 returns-5 : tie.Need-returns-5
 unfolding placeBy
-returns-5 c = ap (λ (l : Line). placeBy l (c .before .before .args .inside) (c .before .before .args .rows)) (sym (c .enum-told5 .given .1))
+returns-5 c = simp (c .enum-told5 .given .1)
 
 returns-6 : tie.Need-returns-6
 unfolding placeBy
-returns-6 c = ap (λ (l : Line). placeBy l (c .before .before .args .inside) (c .before .before .args .rows)) (sym (c .enum-told6 .given .1))
+returns-6 c = simp (c .enum-told6 .given .1)
 
 returns-7 : tie.Need-returns-7
 unfolding placeBy
-returns-7 c = ap (λ (l : Line). placeBy l (c .before .before .args .inside) (c .before .before .args .rows)) (sym (c .enum-told7 .given .1))
+returns-7 c = simp (c .enum-told7 .given .1)
 
 pub place-by-spec : {M : Type 1} → statement M
 place-by-spec =

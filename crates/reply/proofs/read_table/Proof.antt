@@ -51,8 +51,8 @@ use Rattle.reply.specs.declared.Answer.{Answer}
 use Rattle.reply.specs.declared.Row.{Row}
 use Rattle.reply.specs.Reply.{outcomeOf}
 use Rattle.reply.specs.Rows.{scriptRow, ReadRows, tableMeaning, readTable}
-use Rattle.reply.proofs.Walk.{ty, big-lit}
-use Rattle.reply.proofs.Lend.{lends-array, array-back}
+use Rattle.laws.proofs.Walk.{ty, big-lit}
+use Rattle.laws.proofs.Lend.{lends-array, array-back}
 use Rattle.reply.proofs.Tabled.{R, mach, an-mach, arr, arr-tells, tb, tb-mach, made, an-is, typed, arr-typed}
 use Rattle.reply.proofs.Tabled.{tb-typed}
 use Rattle.reply.proofs.Row as T

@@ -1,5 +1,5 @@
-use Rattle.reply.proofs.Turns.{turn-is}
 use borrow.Author.Needs.{needs}
+use Rattle.reply.proofs.Turns.{turn-is}
 use Rattle.reply.proofs.take_turn.Statement.{statement}
 use Rattle.reply.proofs.take_turn.Tie as tie
 
@@ -10,7 +10,10 @@ seen-at-requires : tie.Need-seen-at-requires
 seen-at-requires c κs = search needs
 
 returns : tie.Need-returns
-returns c = turn-is (c .before .before .before .before .args .reply .now) (c .before .before .before .before .args .st) (c .before .before .before .before .args .old) _ _ (c .before .before .change-by .ensures) (c .seen-at .ensures)
+returns c =
+    let start = c .before .before .before .before in
+    turn-is (start .args .reply .now) (start .args .st) (start .args .old)
+    (c .before .before .change-by .ensures) (c .seen-at .ensures)
 
 pub take-turn-spec : {M : Type 1} → statement M
 take-turn-spec = tie.close (tie.spec change-by-requires seen-at-requires returns)

@@ -51,8 +51,8 @@ wide-requires-2 c κs = search needs
 returns : tie.Need-returns
 unfolding rowAt
 returns c =
-    let read = c .before .before .before .before .before in
-    rw (read .kind-of .ensures, c .before .before .wide .ensures, c .wide2 .ensures)
+    let parent = c .before .before in
+    rw (parent .before .before .before .kind-of .ensures, parent .wide .ensures, c .wide2 .ensures)
 
 pub row-at-spec : {M : Type 1} → statement M
 row-at-spec =

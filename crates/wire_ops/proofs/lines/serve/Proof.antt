@@ -70,7 +70,7 @@ use denote.Triple.Walked.{walked, walk-meets}
 use Rattle.reply.specs.declared.LineReader.{LineReader}
 use Rattle.reply.specs.declared.NextLine.{NextLine}
 use Rattle.reply.specs.Lines.{nextLine, placeAfter, Begins, Serves}
-use Rattle.reply.proofs.Walk.{ty}
+use Rattle.laws.proofs.Walk.{ty}
 use Rattle.reply.proofs.LineReader as T
 use Rattle.reply.proofs.LineReader.Laws as T′
 use Rattle.reply.proofs.NextLine as Ln

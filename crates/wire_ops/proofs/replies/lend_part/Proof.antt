@@ -56,7 +56,7 @@ use Rattle.reply.specs.declared.Answer.{Answer}
 use Rattle.reply.specs.declared.Row.{Row}
 use Rattle.reply.specs.Reply.{meaning, outcomeOf}
 use Rattle.reply.specs.Rows.{ReadRows}
-use Rattle.reply.proofs.Walk.{ty}
+use Rattle.laws.proofs.Walk.{ty}
 use borrow.Table.Elements.{at-mul}
 use denote.Memory.{mem as in-mem}
 use Rattle.wire_ops.proofs.Part.{Start, Sides, lends-part, part-back}

@@ -1,8 +1,8 @@
 use mathlib.Core.Path.{_∙_}
 use borrow.Author.Tests.{lt-leb, le-leb}
 use borrow.Author.Needs.{needs}
-use Rattle.reply.proofs.end_reply.Statement.{statement}
-use Rattle.reply.proofs.end_reply.Tie as tie
+use Rattle.reply_step.proofs.end_reply.Statement.{statement}
+use Rattle.reply_step.proofs.end_reply.Tie as tie
 
 step-to-requires : tie.Need-step-to-requires
 step-to-requires c κs = search needs

@@ -1,8 +1,15 @@
-use mathlib.Core.Path.{_∙_}
-use borrow.Author.Tests.{lt-ltb, le-ltb}
 use borrow.Author.Needs.{needs}
-use Rattle.reply.proofs.open_loop.Statement.{statement}
-use Rattle.reply.proofs.open_loop.Tie as tie
+use borrow.Author.Tests.{lt-ltb, le-ltb}
+use lib.Dec.{ltb}
+use mathlib.Core.Bool.{true}
+use mathlib.Core.Path.{_≡_, _∙_}
+use Rattle.reply_step.proofs.open_loop.Statement.{statement}
+use Rattle.reply_step.proofs.open_loop.Tie as tie
+
+-- where there are fewer than eight open loops
+module _ (c : tie.Else1) where
+  shallow : ltb (c .before .before .args .st .depth) 8 ≡ true
+  shallow = lt-ltb _ _ (c .if1 .left)
 
 step-to-requires : tie.Need-step-to-requires
 step-to-requires c κs = search needs
@@ -14,7 +21,9 @@ step-to-requires-2 : tie.Need-step-to-requires-2
 step-to-requires-2 c κs = search needs
 
 returns-2 : tie.Need-returns-2
-returns-2 c = c .step-to2 .ensures ∙ simp (lt-ltb _ _ (c .before .before .before .if1 .left), le-ltb _ _ (c .before .if2 .taken))
+returns-2 c =
+    let d = c .before .before .before in
+    c .step-to2 .ensures ∙ simp (shallow d, le-ltb _ _ (c .before .if2 .taken))
 
 array-set-from-loops : tie.Need-array-set-from-loops
 array-set-from-loops c = search needs
@@ -29,7 +38,9 @@ step-to-requires-3 : tie.Need-step-to-requires-3
 step-to-requires-3 c κs = search needs
 
 returns-3 : tie.Need-returns-3
-returns-3 c = c .step-to3 .ensures ∙ simp (lt-ltb _ _ (c .before .before .before .before .if1 .left), lt-ltb _ _ (c .before .before .if2 .left))
+returns-3 c =
+    let d = c .before .before .before .before in
+    c .step-to3 .ensures ∙ simp (shallow d, lt-ltb _ _ (c .before .before .if2 .left))
 
 pub open-loop-spec : {M : Type 1} → statement M
 open-loop-spec =

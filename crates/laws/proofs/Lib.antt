@@ -1,0 +1,4 @@
+pub mod Stack
+pub mod Lists
+pub mod Walk
+pub mod Lend

@@ -1,0 +1,1 @@
+// Laws alone, for the proofs of the crates above: no function and no type.

@@ -1,0 +1,152 @@
+-- Laws of the open loops, and of the step on them: the step on the array and the depth is 01's. Assumes nothing.
+use mathlib.Core.Bool.{Bool, true, false, cond, false≢true}
+use mathlib.Core.List.{List, map}
+use mathlib.Core.Path.{_≡_, refl, sym, _∙_, ap, subst}
+use native.Mathlib.Omega.{arith}
+use Prim.Native.Nat.{ℕ, zero, suc, _-_, _≤_}
+use borrow.Author.Tests.{ltb-true}
+use lib.Dec.{leb, ltb, eqb}
+use lib.ListN.{length, getD, length-map}
+use Rattle.laws.specs.Stack.{stack}
+use Rattle.laws.proofs.Stack.{stack-length, pushed, topmost}
+use Rattle.reply_line.specs.declared.Kind.{Kind}
+use Rattle.reply_line.specs.declared.Line.{Line}
+use Rattle.reply_line.specs.declared.Line.the-variants as Line
+use Rattle.reply_line.specs.declared.Refusal.the-variants as Refusal
+use Rattle.reply_line.specs.Line.{letterOf}
+use Rattle.reply_step.specs.declared.Loop.{Loop}
+use Rattle.reply_step.specs.declared.Move.the-variants as Move
+use Rattle.reply_step.specs.declared.State.{State}
+use Rattle.reply_step.specs.declared.Step.{Step}
+use Rattle.reply_step.specs.Code as Code
+use Rattle.reply_step.specs.Code.{stepIn, pushIn, popIn}
+use Rattle.reply_step.specs.Meaning.{noLoop, kindIn, kinds, meant, stepped, laid, arrayAfter, Steps}
+use Rattle.reply_step.specs.Step.{closes, outer, goes, refused, opened, closed, step}
+
+-- ---- the open loops
+
+module _ (st : State) where
+  pub how-many : length (kinds st) ≡ st .depth
+  how-many = length-map (stack noLoop (st .loops) (st .depth)) kindIn ∙ stack-length noLoop (st .loops) (st .depth)
+
+  -- the innermost, as the code finds it
+  pub closes-top : (k : Kind) → (st .depth ≡ 0 → ⊥)
+      → eqb (letterOf (getD (st .loops) (st .depth - 1) noLoop .kind)) (letterOf k) ≡ closes k (kinds st)
+  unfolding closes
+  closes-top k some = rw (topmost noLoop (st .loops) (st .depth) some) refl
+
+  pub closes-none : (k : Kind) → st .depth ≡ 0 → false ≡ closes k (kinds st)
+  unfolding closes
+  closes-none k none = rw none refl
+
+  pub closes-some : (k : Kind) → closes k (kinds st) ≡ true → 1 ≤ st .depth
+  closes-some k e = by-depth (st .depth) refl
+    where
+      by-depth : (d : ℕ) → st .depth ≡ d → 1 ≤ st .depth
+      by-depth zero p = absurd (false≢true (closes-none k p ∙ e))
+      by-depth (suc d) p = omega arith
+
+  is-opened : (k : Kind) → length (st .loops) ≡ 8 → ltb (st .depth) 8 ≡ true
+      → meant (pushIn k st) ≡ opened k (meant st)
+  is-opened k eight e =
+      ap (λ (l : List Loop). record { loops = map kindIn l; rows = pushIn k st .rows })
+      (pushed noLoop (st .loops) (st .depth) (record { kind = k }) (omega (arith, ltb-true (st .depth) 8 e, eight)))
+
+  is-closed : meant (popIn st) ≡ closed (meant st)
+  is-closed = ap (λ (l : List Kind). record { loops = l; rows = st .rows }) (by-depth (st .depth))
+    where
+      by-depth : (d : ℕ) → map kindIn (stack noLoop (st .loops) (d - 1))
+          ≡ outer (map kindIn (stack noLoop (st .loops) d))
+      by-depth zero = refl
+      by-depth (suc d) =
+          let e : suc d - 1 ≡ d = omega arith in
+          rw e refl
+
+-- ---- the step
+
+-- what each line's step means
+module _ (n : ℕ) (st : State) where
+  at-end : stepped (Code.endIn st) ≡ step n Line.Empty (meant st)
+  unfolding step
+  at-end = rw (how-many st) (by-test (leb 1 (st .depth)))
+    where
+      by-test : (b : Bool)
+          → stepped (cond b (Code.to (Move.Refused Refusal.NoMate) st) (Code.to (Move.Ends 0) st))
+          ≡ cond b (refused Refusal.NoMate (meant st)) (goes (Move.Ends 0) (meant st))
+      by-test true = refl
+      by-test false = refl
+
+  at-opening : (k : Kind) (v : ℕ) → length (st .loops) ≡ 8
+      → stepped (Code.openIn n k st) ≡ step n (Line.Opens k v) (meant st)
+  unfolding step
+  at-opening k v eight = rw (how-many st) (by-test (ltb (st .depth) 8) refl (ltb (st .rows) n))
+    where
+      by-test : (b : Bool) → ltb (st .depth) 8 ≡ b → (b′ : Bool)
+          → stepped (cond b
+          (cond b′ (Code.to Move.On (pushIn k st)) (Code.to (Move.Refused Refusal.ShortTable) st))
+          (Code.to (Move.Refused Refusal.NinthLoop) st))
+          ≡ cond b
+          (cond b′ (goes Move.On (opened k (meant st))) (refused Refusal.ShortTable (meant st)))
+          (refused Refusal.NinthLoop (meant st))
+      by-test true e true = ap (goes Move.On) (is-opened st k eight e)
+      by-test true e false = refl
+      by-test false e b′ = refl
+
+  at-closing : (k : Kind) → stepped (Code.closeIn k st) ≡ step n (Line.Closes k) (meant st)
+  unfolding step
+  at-closing k = by-test (closes k (kinds st))
+    where
+      by-test : (b : Bool)
+          → stepped (cond b (Code.to Move.On (popIn st)) (Code.to (Move.Refused Refusal.NoMate) st))
+          ≡ cond b (goes Move.On (closed (meant st))) (refused Refusal.NoMate (meant st))
+      by-test true = ap (goes Move.On) (is-closed st)
+      by-test false = refl
+
+  step-means : (l : Line) → length (st .loops) ≡ 8 → stepped (stepIn n l st) ≡ step n l (meant st)
+  unfolding step stepIn
+  step-means Line.Quiet eight = refl
+  step-means Line.Empty eight = at-end
+  step-means Line.Package eight = refl
+  step-means (Line.Opens k v) eight = at-opening k v eight
+  step-means (Line.Closes k) eight = at-closing k
+  step-means (Line.Error v) eight = refl
+  step-means (Line.Refused r) eight = refl
+
+  -- what it leaves of the array
+  abbrev Kept : Line → Step → Type 0
+  Kept l r = r .state .loops ≡ arrayAfter (r .to) l st
+
+  step-array : (l : Line) → Kept l (stepIn n l st)
+  unfolding stepIn arrayAfter laid
+  step-array Line.Quiet = refl
+  step-array Line.Empty = by-test (leb 1 (st .depth))
+    where
+      by-test : (b : Bool)
+          → Kept Line.Empty (cond b (Code.to (Move.Refused Refusal.NoMate) st) (Code.to (Move.Ends 0) st))
+      by-test true = refl
+      by-test false = refl
+  step-array Line.Package = refl
+  step-array (Line.Opens k v) = by-test (ltb (st .depth) 8) (ltb (st .rows) n)
+    where
+      by-test : (b b′ : Bool)
+          → Kept (Line.Opens k v) (cond b
+          (cond b′ (Code.to Move.On (pushIn k st)) (Code.to (Move.Refused Refusal.ShortTable) st))
+          (Code.to (Move.Refused Refusal.NinthLoop) st))
+      by-test true true = refl
+      by-test true false = refl
+      by-test false b′ = refl
+  step-array (Line.Closes k) = by-test (closes k (kinds st))
+    where
+      by-test : (b : Bool)
+          → Kept (Line.Closes k) (cond b (Code.to Move.On (popIn st)) (Code.to (Move.Refused Refusal.NoMate) st))
+      by-test true = refl
+      by-test false = refl
+  step-array (Line.Error v) = refl
+  step-array (Line.Refused r) = refl
+
+-- the code's step on a line that was found to be l
+pub does : {n : ℕ} {line l : Line} {st : State} {r : Step} → length (st .loops) ≡ 8 → line ≡ l → r ≡ stepIn n l st
+    → Steps n line st r
+does {n} {line} {l} {st} {r} eight is e =
+    let same : r ≡ stepIn n line st = e ∙ ap (λ (m : Line). stepIn n m st) (sym is) in
+    subst (Steps n line st) (sym same) (record { means = step-means n st line eight; array = step-array n st line })

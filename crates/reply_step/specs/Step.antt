@@ -1,0 +1,64 @@
+-- 01, Packages and replies: what a line of a reply does. Assumes nothing.
+use mathlib.Core.Bool.{Bool, false, cond}
+use mathlib.Core.List.{List, [], _∷_}
+use Prim.Native.Nat.{ℕ, _+_}
+use lib.Dec.{leb, ltb, eqb}
+use lib.ListN.{length}
+use Rattle.reply_line.specs.declared.Kind.{Kind}
+use Rattle.reply_line.specs.declared.Refusal.{Refusal}
+use Rattle.reply_line.specs.declared.Refusal.the-variants as Refusal
+use Rattle.reply_line.specs.declared.Line.{Line}
+use Rattle.reply_line.specs.declared.Line.the-variants as Line
+use Rattle.reply_line.specs.Line.{letterOf}
+use Rattle.reply_step.specs.declared.Move.{Move}
+use Rattle.reply_step.specs.declared.Move.the-variants as Move
+
+-- the open loops, innermost first, and how many rows there are
+pub record Open : Type 0 where
+  pub loops : List Kind
+  pub rows : ℕ
+
+-- before the first line: the script's row alone
+abbrev pub begun : Open
+begun = record { loops = []; rows = 1 }
+
+-- where a line leads, and what is open then
+pub record Next : Type 0 where
+  pub to : Move
+  pub state : Open
+
+abbrev pub goes : Move → Open → Next
+goes m st = record { to = m; state = st }
+
+abbrev pub refused : Refusal → Open → Next
+refused r st = goes (Move.Refused r) st
+
+-- "closing mark without its mate": the innermost open loop must be of the mark's kind
+unfoldable pub closes : Kind → List Kind → Bool
+unfolding letterOf
+closes k [] = false
+closes k (l ∷ ls) = eqb (letterOf l) (letterOf k)
+
+abbrev pub outer : List Kind → List Kind
+outer [] = []
+outer (l ∷ ls) = ls
+
+abbrev pub opened : Kind → Open → Open
+opened k st = record { loops = k ∷ st .loops; rows = st .rows + 1 }
+
+abbrev pub closed : Open → Open
+closed st = record { loops = outer (st .loops); rows = st .rows }
+
+-- "Within a line the tests run 51, 40, 41, 52, 53, 54": what the line is by itself comes first
+unfoldable pub step : ℕ → Line → Open → Next
+unfolding closes
+step n Line.Quiet st = goes Move.On st
+step n Line.Empty st = cond (leb 1 (length (st .loops))) (refused Refusal.NoMate st) (goes (Move.Ends 0) st)
+step n Line.Package st = goes Move.On st
+step n (Line.Opens k v) st =
+    cond (ltb (length (st .loops)) 8)
+    (cond (ltb (st .rows) n) (goes Move.On (opened k st)) (refused Refusal.ShortTable st))
+    (refused Refusal.NinthLoop st)
+step n (Line.Closes k) st = cond (closes k (st .loops)) (goes Move.On (closed st)) (refused Refusal.NoMate st)
+step n (Line.Error v) st = goes (Move.Ends v) st
+step n (Line.Refused r) st = refused r st
