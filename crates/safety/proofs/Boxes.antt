@@ -1,4 +1,5 @@
--- The boxes that are open before an item of an accepted script: those of the text, each with its opening item, its closing mark still ahead.
+-- The boxes that are open before an item of an accepted script: those of the text, each with its opening item, its
+-- closing mark still ahead.
 use Prim.Native.Nat.{ℕ, zero, suc, _+_, _≤_, _<_}
 use mathlib.Core.Path.{_≡_, refl, ap, _∙_, subst}
 use mathlib.Core.Bool.{Bool, true, false, _&&_}
@@ -11,7 +12,8 @@ use borrow.Author.Tests.{leb-false, ne-eqb}
 use Rattle.table.specs.declared.Head.{Head}
 use Rattle.table.specs.declared.Close.{Close}
 use Rattle.table.specs.declared.Item.{Item}
-use Rattle.table.specs.declared.Item.the-variants.{Act as act, Pack as pack, Open as opens, Branch as branch, Close as closes, Break as breakloop, Tag as tag}
+use Rattle.table.specs.declared.Item.the-variants.{Act as act, Pack as pack, Open as opens, Branch as branch}
+use Rattle.table.specs.declared.Item.the-variants.{Close as closes, Break as breakloop, Tag as tag}
 use Rattle.table.specs.Item.{sortOf, isOpen, isClose, fits}
 use Rattle.table.specs.Uses.{Kinds, Names}
 use Rattle.mates.specs.declared.Open.{Open}
@@ -35,7 +37,8 @@ abbrev pub outer : Box → List Box → Bool → Placed
 outer b bs tg = state (b .before) bs false tg
 
 -- a box's opening item, and its closing mark still ahead
-pub record Headed (items : List Item) (i : ℕ) (st : List Open) (xs : List Item) (tg : Bool) (b : Box) (bs : List Box) : Type 0 where
+pub record Headed (items : List Item) (i : ℕ) (st : List Open) (xs : List Item) (tg : Bool) (b : Box) (bs : List Box) :
+    Type 0 where
   pub head : Head
   pub kinds : Kinds
   pub body : List Item
@@ -60,7 +63,8 @@ scan-next j st (suc i) (y ∷ l) x xs e =
     let n : suc j + i ≡ j + suc i = omega arith in
     rw (← n) (scan-next (suc j) (scan j y st) i l x xs e)
 
-pub boxes-next : (items : List Item) (i : ℕ) (x : Item) (xs : List Item) → drop i items ≡ x ∷ xs → boxesAt items (suc i) ≡ scan i x (boxesAt items i)
+pub boxes-next : (items : List Item) (i : ℕ) (x : Item) (xs : List Item) → drop i items ≡ x ∷ xs
+    → boxesAt items (suc i) ≡ scan i x (boxesAt items i)
 boxes-next items i x xs e = scan-next 0 [] i items x xs e ∙ ap (λ (n : ℕ). scan n x (boxesAt items i)) (zero-add i)
 
 -- ---- one item further
@@ -70,7 +74,8 @@ module _ (i : ℕ) (su : Names) (p tg : Bool) where
   abbrev boxesAfter : List Box → Item → List Box
   boxesAfter l x = (after i (state su l p tg) x) .boxes
 
-  pub erase-after : (l : List Box) (x : Item) → misplaced x (plains l) ≡ false → scan i x (erase l) ≡ erase (boxesAfter l x)
+  pub erase-after : (l : List Box) (x : Item) → misplaced x (plains l) ≡ false
+      → scan i x (erase l) ≡ erase (boxesAfter l x)
   erase-after l (act a) h = refl
   erase-after l (pack q) h = refl
   erase-after l (opens e) h = refl
@@ -100,7 +105,8 @@ module _ (i : ℕ) (su : Names) (p tg : Bool) where
   below-after l breakloop h = below-up l h
   below-after l tag h = below-up l h
 
-  pub few-after : (l : List Box) (x : Item) → (isOpen x && leb 8 (length l)) ≡ false → length l ≤ 8 → length (boxesAfter l x) ≤ 8
+  pub few-after : (l : List Box) (x : Item) → (isOpen x && leb 8 (length l)) ≡ false → length l ≤ 8
+      → length (boxesAfter l x) ≤ 8
   few-after l (act a) e h = h
   few-after l (pack q) e h = h
   few-after l (opens d) e h = omega (arith, leb-false 8 (length l) e)
@@ -112,12 +118,20 @@ module _ (i : ℕ) (su : Names) (p tg : Bool) where
   few-after l tag e h = h
 
 -- the boxes below n keep their closing mark ahead of an item that closes none of them
-heads-map : (items : List Item) (i n : ℕ) (st : List Open) (x : Item) (xs : List Item) (tg : Bool) (l : List Box) → Below n l
+heads-map : (items : List Item) (i n : ℕ) (st : List Open) (x : Item) (xs : List Item) (tg : Bool) (l : List Box)
+    → Below n l
     → ((p : ℕ) → p < n → (isClose x && belongs p x st) ≡ false)
     → Heads items i st (x ∷ xs) tg l → Heads items (suc i) (scan i x st) xs tg l
 heads-map items i n st x xs tg [] w f h = tt
 heads-map items i n st x xs tg (b ∷ bs) w f h = (
-  record { head = h .0 .head; kinds = h .0 .kinds; body = h .0 .body; reach = h .0 .reach; sort = h .0 .sort; mate = h .0 .mate ∙ passed },
+  record {
+    head = h .0 .head;
+    kinds = h .0 .kinds;
+    body = h .0 .body;
+    reach = h .0 .reach;
+    sort = h .0 .sort;
+    mate = h .0 .mate ∙ passed;
+  },
   heads-map items i (b .at) st x xs tg bs (w .1) (λ p q. f p (omega (arith, w .0))) (h .1),
 )
   where
@@ -125,7 +139,8 @@ heads-map items i n st x xs tg (b ∷ bs) w f h = (
     passed = rw (f (b .at) (w .0))
 
 -- a closing mark of the box c closes no box below it
-not-below : (e : Close) (c : Box) (bs : List Box) (p : ℕ) → p < c .at → (isClose (closes e) && belongs p (closes e) (erase (c ∷ bs))) ≡ false
+not-below : (e : Close) (c : Box) (bs : List Box) (p : ℕ) → p < c .at
+    → (isClose (closes e) && belongs p (closes e) (erase (c ∷ bs))) ≡ false
 not-below e c bs p h = go (fits (closes e) (c .sort))
   where
     go : (f : Bool) → (f && eqb (c .at) p) ≡ false
@@ -133,9 +148,11 @@ not-below e c bs p h = go (fits (closes e) (c .sort))
     go false = refl
 
 module _ (items : List Item) {i : ℕ} {su : Names} {p tg : Bool} {k k₀ : Kinds} {xs : List Item} where
-  pub heads-after : (x : Item) (l : List Box) → Reach items i (state su l p tg) k (x ∷ xs) → Clean k₀ (state su l p tg) x
+  pub heads-after : (x : Item) (l : List Box) → Reach items i (state su l p tg) k (x ∷ xs)
+      → Clean k₀ (state su l p tg) x
       → drop i items ≡ x ∷ xs → boxesAt items i ≡ erase l → Below i l → Heads items i (erase l) (x ∷ xs) tg l
-      → let s : Placed = after i (state su l p tg) x in Heads items (suc i) (scan i x (erase l)) xs (s .tagged) (s .boxes)
+      → let s : Placed =
+      after i (state su l p tg) x in Heads items (suc i) (scan i x (erase l)) xs (s .tagged) (s .boxes)
   heads-after (act a) l r c t e w h = heads-map items i i (erase l) (act a) xs tg l w (λ q u. refl) h
   heads-after (pack q) l r c t e w h = heads-map items i i (erase l) (pack q) xs tg l w (λ q u. refl) h
   heads-after (opens d) l r c t e w h = (
@@ -151,10 +168,20 @@ module _ (items : List Item) {i : ℕ} {su : Names} {p tg : Bool} {k k₀ : Kind
   )
   heads-after (branch d) [] r c t e w h = tt
   heads-after (branch d) (b ∷ bs) r c t e w h =
-      let g = heads-map items i i (erase (b ∷ bs)) (branch d) xs tg (b ∷ bs) w (λ q u. refl) h in
-      (record { head = g .0 .head; kinds = g .0 .kinds; body = g .0 .body; reach = g .0 .reach; sort = g .0 .sort; mate = g .0 .mate }, g .1)
+      let g = heads-map items i i (erase (b ∷ bs)) (branch d) xs tg (b ∷ bs) w (λ q u. refl) h in (
+        record {
+          head = g .0 .head;
+          kinds = g .0 .kinds;
+          body = g .0 .body;
+          reach = g .0 .reach;
+          sort = g .0 .sort;
+          mate = g .0 .mate;
+        },
+        g .1,
+      )
   heads-after (closes d) [] r c t e w h = tt
-  heads-after (closes d) (b ∷ bs) r c t e w h = heads-map items i (b .at) (erase (b ∷ bs)) (closes d) xs tg bs (w .1) (not-below d b bs) (h .1)
+  heads-after (closes d) (b ∷ bs) r c t e w h =
+      heads-map items i (b .at) (erase (b ∷ bs)) (closes d) xs tg bs (w .1) (not-below d b bs) (h .1)
   heads-after breakloop l r c t e w h = heads-map items i i (erase l) breakloop xs tg l w (λ q u. refl) h
   heads-after tag [] r c t e w h = tt
   heads-after tag (b ∷ bs) r c t e w h = no (or-r tg true (c .tagged))

@@ -16,7 +16,10 @@ use Rattle.table.specs.declared.Operand.the-variants.{Name as name, Literal as 
 use Rattle.table.specs.declared.Condition.{Condition}
 use Rattle.table.specs.declared.Sweep.{Sweep}
 use Rattle.table.specs.declared.Act.{Act}
-use Rattle.table.specs.declared.Act.the-variants.{Var as var, Store as store, Copy as copy, Calc as calc, Meas as meas, TimerGet as timerGet, SendString as sendString, Wait as wait, SetE as setE, SetMode as setMode, TimerStart as timerStart, CellOn as cellOn, CellOff as cellOff, Abort as abort}
+use Rattle.table.specs.declared.Act.the-variants.{Var as var, Store as store, Copy as copy, Calc as calc, Meas as meas}
+use Rattle.table.specs.declared.Act.the-variants.{TimerGet as timerGet, SendString as sendString, Wait as wait}
+use Rattle.table.specs.declared.Act.the-variants.{SetE as setE, SetMode as setMode, TimerStart as timerStart}
+use Rattle.table.specs.declared.Act.the-variants.{CellOn as cellOn, CellOff as cellOff, Abort as abort}
 use Rattle.table.specs.declared.Pack.{Pack}
 use Rattle.table.specs.declared.Pack.the-variants.{Start as pckStart, End as pckEnd, Add as pckAdd}
 use Rattle.table.specs.declared.Head.{Head}
@@ -25,7 +28,8 @@ use Rattle.table.specs.declared.Branch.{Branch}
 use Rattle.table.specs.declared.Close.{Close}
 use Rattle.table.specs.declared.Close.the-variants.{EndIf as endif, EndLoop as endloop}
 use Rattle.table.specs.declared.Item.{Item}
-use Rattle.table.specs.declared.Item.the-variants.{Act as act, Pack as pack, Open as opens, Branch as branch, Close as closes, Break as breakloop, Tag as tag}
+use Rattle.table.specs.declared.Item.the-variants.{Act as act, Pack as pack, Open as opens, Branch as branch}
+use Rattle.table.specs.declared.Item.the-variants.{Close as closes, Break as breakloop, Tag as tag}
 use Rattle.state.specs.declared.LoopSort.{LoopSort}
 use Rattle.state.specs.declared.LoopSort.the-variants.{Loop as aLoop, Sweep as aSweep}
 use Rattle.table.specs.declared.Kind.the-variants.{Real as realKind}
@@ -40,21 +44,29 @@ use Rattle.rules.specs.Check.{put}
 use Rattle.state.specs.declared.Cell.{Cell}
 use Rattle.state.specs.declared.Cell.the-variants.{Holds as held}
 use Rattle.state.specs.declared.Offer.{Offer}
-use Rattle.state.specs.declared.Offer.the-variants.{Nothing as nothing, Float as oneFloat, Point as onePoint, Done as done}
-use Rattle.state.specs.State.{Vars, cellAt, isWritten, cellKind, cellValue, cellType, valueOf, holds, da, ba, eb, code0028, code0010, Run, leaves, Answer, running, waiting, finished, stopped, fault, refuse, Step, goto, keep, unskip, said, stopsBy, reading, cellOk}
-use Rattle.machine.specs.Machine.{unwind, outside, next, kept, runAct, runPack, Chosen, otherwise, chosen, enter, leave, runPoint, runHead, runBranch, runClose, runBreak, run}
+use Rattle.state.specs.declared.Offer.the-variants.{Nothing as nothing, Float as oneFloat, Point as onePoint}
+use Rattle.state.specs.declared.Offer.the-variants.{Done as done}
+use Rattle.state.specs.State.{Vars, cellAt, isWritten, cellKind, cellValue, cellType, valueOf, holds, da, ba, eb}
+use Rattle.state.specs.State.{code0028, code0010, Run, leaves, Answer, running, waiting, finished, stopped, fault}
+use Rattle.state.specs.State.{refuse, Step, goto, keep, unskip, said, stopsBy, reading, cellOk}
+use Rattle.machine.specs.Machine.{unwind, outside, next, kept, runAct, runPack, Chosen, otherwise, chosen, enter, leave}
+use Rattle.machine.specs.Machine.{runPoint, runHead, runBranch, runClose, runBreak, run}
 use Rattle.safety.specs.Safety.{isCode}
 use Rattle.safety.proofs.Laws.{no, or-l, or-r, and-l, and-r, not-f, not-t, both-r, not-nothing}
-use Rattle.safety.proofs.Walk.{textKinds, Accepted, more, closes-fits, branch-fits, clean, item-ok, gives-ok, like-below, float-below}
+use Rattle.safety.proofs.Walk.{textKinds, Accepted, more, closes-fits, branch-fits, clean, item-ok, gives-ok}
+use Rattle.safety.proofs.Walk.{like-below, float-below}
 use Rattle.safety.proofs.Boxes.{erase, Headed}
 use Rattle.safety.proofs.Static.{static}
-use Rattle.safety.proofs.Mates.{Under, here, there, left-sure, left-loop, Picks, goes, passes, find-close, past-close, branchedBox, close-head}
-use Rattle.safety.proofs.Names.{Covers, AllCover, VarsOk, set-vars, written-up, all-cover-up, cover-set, cell-kind, kind-now}
+use Rattle.safety.proofs.Mates.{Under, here, there, left-sure, left-loop, Picks, goes, passes, find-close}
+use Rattle.safety.proofs.Mates.{past-close, branchedBox, close-head}
+use Rattle.safety.proofs.Names.{Covers, AllCover, VarsOk, set-vars, written-up, all-cover-up, cover-set}
+use Rattle.safety.proofs.Names.{cell-kind, kind-now}
 use Rattle.safety.proofs.Stands.{positions, Here, Good, shape-of, land, not-again, outside-is, knows}
 use Rattle.safety.proofs.NoFault.{innermost-loop, mates-good}
 use Rattle.safety.proofs.Results.{checked-got, result-got}
 
-cover-under : {b : Box} {bs l : List Box} (vs : Vars) → Under b bs l → AllCover l vs → Covers (b .before) vs × AllCover bs vs
+cover-under : {b : Box} {bs l : List Box} (vs : Vars) → Under b bs l → AllCover l vs
+    → Covers (b .before) vs × AllCover bs vs
 cover-under vs here h = h
 cover-under vs (there u) h = cover-under vs u (h .1)
 
@@ -79,13 +91,17 @@ module _ {names size : ℕ} {items : List Item} (ok : Accepted names size items)
 
     module _ (a : Act) {xs : List Item} (h : Here ok m su l p tg k (act a ∷ xs)) where
       wrote : (v : ℕ) (w : Cell) → put su (actGives a) ≡ set su v true → v < 32
-          → isWritten w ≡ true → cellOk w ≡ true → differ (kindAt (textKinds items) v) (cellKind w) ≡ false → Good ok (next (keep m (set (m .vars) v w)))
+          → isWritten w ≡ true → cellOk w ≡ true → differ (kindAt (textKinds items) v) (cellKind w) ≡ false
+          → Good ok (next (keep m (set (m .vars) v w)))
       wrote v w q u e f d =
           land ok (more (h .reach)) (inl (not-again ok h refl)) (h .packed)
-          (rw q (cover-set (m .vars) v w su (h .vars .len) u e (h .cover))) (all-cover-up (m .vars) v w l e (h .covers)) (set-vars (m .vars) v w (h .vars) f d) (h .living)
+          (rw q (cover-set (m .vars) v w su (h .vars .len) u e (h .cover)))
+          (all-cover-up (m .vars) v w l e (h .covers)) (set-vars (m .vars) v w (h .vars) f d) (h .living)
 
       kept-fine : (v c : ℕ) (g : Calculated) → put su (actGives a) ≡ set su v true → v < 32
-          → ((u : Value) → g ≡ got u → (finite u ≡ true) × (differ (kindAt (textKinds items) v) (known (kindOf u)) ≡ false)) → FineStep (kept m v c g)
+          → ((u : Value) → g ≡ got u
+          → (finite u ≡ true) × (differ (kindAt (textKinds items) v) (known (kindOf u)) ≡ false))
+          → FineStep (kept m v c g)
       kept-fine v c (got u) q b f = wrote v (held u c) q b refl ((f u refl) .0) ((f u refl) .1)
       kept-fine v c byZero q b f = stops h code0028 refl
       kept-fine v c notFinite q b f = stops h code0010 refl
@@ -95,7 +111,9 @@ module _ {names size : ℕ} {items : List Item} (ok : Accepted names size items)
       float-fine v c x q b d = kept-fine v c (checked x) q b (λ u e. let r = checked-got x u e in (r .0, rw (r .1) d))
 
       stays : put su (actGives a) ≡ su → Good ok (next m)
-      stays q = land ok (more (h .reach)) (inl (not-again ok h refl)) (h .packed) (rw q (h .cover)) (h .covers) (h .vars) (h .living)
+      stays q =
+          land ok (more (h .reach)) (inl (not-again ok h refl)) (h .packed) (rw q (h .cover)) (h .covers) (h .vars)
+          (h .living)
 
       written-ok : givesOk names (actGives a) ≡ true
       written-ok = gives-ok ok (act a) (item-ok ok (h .reach))
@@ -104,17 +122,27 @@ module _ {names size : ℕ} {items : List Item} (ok : Accepted names size items)
     act-fine (var v) o h = stays (var v) h refl
     act-fine (store v x c) o h =
         let g = written-ok (store v x c) h in
-        wrote (store v x c) h v (held x c) refl (like-below ok v (literal x) g) refl (and-r (ltb v names) (finite x) g) ((clean ok (h .reach)) .gifts)
+        wrote (store v x c) h v (held x c) refl (like-below ok v (literal x) g) refl (and-r (ltb v names) (finite x) g)
+        ((clean ok (h .reach)) .gifts)
     act-fine (copy a b) o h =
         let s : has su a ≡ true = not-f (has su a) ((clean ok (h .reach)) .there) in
-        wrote (copy a b) h b (cellAt (m .vars) a) refl (like-below ok b (name a) (written-ok (copy a b) h)) (h .cover a s) (h .vars .fine a)
+        wrote (copy a b) h b (cellAt (m .vars) a) refl (like-below ok b (name a) (written-ok (copy a b) h))
+        (h .cover a s) (h .vars .fine a)
         (rw (kind-now (knows ok h) a s) ((clean ok (h .reach)) .gifts))
     act-fine (calc f v x) o h =
-        let s : has su v ≡ true = not-f (has su v) (or-l (not (has su v)) (gone (has su) x) ((clean ok (h .reach)) .there)) in
-        kept-fine (calc f v x) h v (cellType (cellAt (m .vars) v)) (calculated f (cellValue (cellAt (m .vars) v)) (valueOf (m .vars) x)) refl (like-below ok v (name v) (written-ok (calc f v x) h))
-        (λ u e. let r = result-got f (cellValue (cellAt (m .vars) v)) (valueOf (m .vars) x) u e in (r .0, rw (r .1, ← (cell-kind (cellAt (m .vars) v) (h .cover v s))) (h .vars .agree v)))
-    act-fine (meas f v c) o h = float-fine (meas f v c) h v c (reading o) refl (float-below ok v [] (written-ok (meas f v c) h)) ((clean ok (h .reach)) .gifts)
-    act-fine (timerGet v) o h = float-fine (timerGet v) h v eb (reading o) refl (float-below ok v [] (written-ok (timerGet v) h)) ((clean ok (h .reach)) .gifts)
+        let s : has su v ≡ true =
+        not-f (has su v) (or-l (not (has su v)) (gone (has su) x) ((clean ok (h .reach)) .there)) in
+        kept-fine (calc f v x) h v (cellType (cellAt (m .vars) v))
+        (calculated f (cellValue (cellAt (m .vars) v)) (valueOf (m .vars) x)) refl
+        (like-below ok v (name v) (written-ok (calc f v x) h))
+        (λ u e. let r = result-got f (cellValue (cellAt (m .vars) v)) (valueOf (m .vars) x) u e in
+        (r .0, rw (r .1, ← (cell-kind (cellAt (m .vars) v) (h .cover v s))) (h .vars .agree v)))
+    act-fine (meas f v c) o h =
+        float-fine (meas f v c) h v c (reading o) refl (float-below ok v [] (written-ok (meas f v c) h))
+        ((clean ok (h .reach)) .gifts)
+    act-fine (timerGet v) o h =
+        float-fine (timerGet v) h v eb (reading o) refl (float-below ok v [] (written-ok (timerGet v) h))
+        ((clean ok (h .reach)) .gifts)
     act-fine (sendString s) o h = stays (sendString s) h refl
     act-fine (wait f) o h = stays (wait f) h refl
     act-fine (setE f) o h = stays (setE f) h refl
@@ -122,49 +150,69 @@ module _ {names size : ℕ} {items : List Item} (ok : Accepted names size items)
     act-fine timerStart o h = stays timerStart h refl
     act-fine cellOn o h = stays cellOn h refl
     act-fine cellOff o h = stays cellOff h refl
-    act-fine abort o h = land ok (more (h .reach)) (inl (not-again ok h refl)) (h .packed) (h .cover) (h .covers) (h .vars) (h .living)
+    act-fine abort o h =
+        land ok (more (h .reach)) (inl (not-again ok h refl)) (h .packed) (h .cover) (h .covers) (h .vars) (h .living)
 
     pack-fine : (q : Pack) {xs : List Item} → Here ok m su l p tg k (pack q ∷ xs) → FineStep (runPack m q)
-    pack-fine pckStart h = land ok (more (h .reach)) (inl (not-again ok h refl)) refl (h .cover) (h .covers) (h .vars) (h .living)
-    pack-fine pckEnd h = land ok (more (h .reach)) (inl (not-again ok h refl)) refl (h .cover) (h .covers) (h .vars) (h .living)
-    pack-fine (pckAdd v) h = land ok (more (h .reach)) (inl (not-again ok h refl)) (h .packed) (h .cover) (h .covers) (h .vars) (h .living)
+    pack-fine pckStart h =
+        land ok (more (h .reach)) (inl (not-again ok h refl)) refl (h .cover) (h .covers) (h .vars) (h .living)
+    pack-fine pckEnd h =
+        land ok (more (h .reach)) (inl (not-again ok h refl)) refl (h .cover) (h .covers) (h .vars) (h .living)
+    pack-fine (pckAdd v) h =
+        land ok (more (h .reach)) (inl (not-again ok h refl)) (h .packed) (h .cover) (h .covers) (h .vars) (h .living)
 
     pub tag-fine : {xs : List Item} → Here ok m su l p tg k (tag ∷ xs) → Good ok (next m)
-    tag-fine h = land ok (more (h .reach)) (inl (not-again ok h refl)) (h .packed) (λ n e. not-nothing n e) (h .covers) (h .vars) (h .living)
+    tag-fine h =
+        land ok (more (h .reach)) (inl (not-again ok h refl)) (h .packed) (λ n e. not-nothing n e) (h .covers)
+        (h .vars) (h .living)
 
     -- ---- opening marks
 
     -- a box is entered, with the names vs
-    entered-fine : (d : Head) {xs : List Item} → Here ok m su l p tg k (opens d ∷ xs) → (vs : Vars) → VarsOk (textKinds items) vs → Covers (put su (headGives d)) vs → Covers su vs → AllCover l vs
+    entered-fine : (d : Head) {xs : List Item} → Here ok m su l p tg k (opens d ∷ xs) → (vs : Vars)
+        → VarsOk (textKinds items) vs → Covers (put su (headGives d)) vs → Covers su vs → AllCover l vs
         → (ps : List ℕ) → ps ≡ positions l → Good ok (goto (keep m vs) (suc (m .at)) (m .at ∷ ps))
     entered-fine d h vs v c e a ps q = land ok (more (h .reach)) (inl (rw q)) (h .packed) c (e, a) v (h .living)
 
-    leave-fine : (d : Head) {xs : List Item} (o : LoopSort) → Here ok m su l p tg k (opens d ∷ xs) → isLoop (sortOf d) ≡ true → FineStep (leave items o m)
+    leave-fine : (d : Head) {xs : List Item} (o : LoopSort) → Here ok m su l p tg k (opens d ∷ xs)
+        → isLoop (sortOf d) ≡ true → FineStep (leave items o m)
     leave-fine d o h q =
         let f = past-close ok (close-head ok (h .reach)) in
-        land ok (f .reach) (inl (outside-is ok h)) (h .packed ∙ (clean ok (h .reach)) .packed) (λ n e. h .cover n (f .loops q n e)) (h .covers) (h .vars) (h .living)
+        land ok (f .reach) (inl (outside-is ok h)) (h .packed ∙ (clean ok (h .reach)) .packed)
+        (λ n e. h .cover n (f .loops q n e)) (h .covers) (h .vars) (h .living)
 
-    picks-fine : {c : Condition} {xs : List Item} → Here ok m su l p tg k (opens (if' c) ∷ xs) → {d : Chosen} → Picks items (m .at) su l d → FineStep (chosen m d)
+    picks-fine : {c : Condition} {xs : List Item} → Here ok m su l p tg k (opens (if' c) ∷ xs) → {d : Chosen}
+        → Picks items (m .at) su l d → FineStep (chosen m d)
     picks-fine h (goes r e f) =
-        land ok r (inl (rw (e, not-again ok h refl))) (h .packed ∙ (clean ok (h .reach)) .packed) (h .cover) (rw f (h .cover), h .covers) (h .vars) (h .living)
+        land ok r (inl (rw (e, not-again ok h refl))) (h .packed ∙ (clean ok (h .reach)) .packed) (h .cover)
+        (rw f (h .cover), h .covers) (h .vars) (h .living)
     picks-fine h (passes r e) =
-        land ok r (inl (not-again ok h refl)) (h .packed ∙ (clean ok (h .reach)) .packed) (λ n q. h .cover n (e n q)) (h .covers) (h .vars) (h .living)
+        land ok r (inl (not-again ok h refl)) (h .packed ∙ (clean ok (h .reach)) .packed) (λ n q. h .cover n (e n q))
+        (h .covers) (h .vars) (h .living)
 
-    if-fine : (c : Condition) {xs : List Item} (o : Offer) → Here ok m su l p tg k (opens (if' c) ∷ xs) → FineStep (runHead items m (if' c) o)
+    if-fine : (c : Condition) {xs : List Item} (o : Offer) → Here ok m su l p tg k (opens (if' c) ∷ xs)
+        → FineStep (runHead items m (if' c) o)
     if-fine c o h = go (holds (m .vars) c)
       where
-        go : (b : Bool) → FineStep (cond b (said [] (goto m (suc (m .at)) (m .at ∷ m .boxes))) (chosen m (otherwise items m)))
-        go true = entered-fine (if' c) h (m .vars) (h .vars) (h .cover) (h .cover) (h .covers) (m .boxes) (not-again ok h refl)
+        go : (b : Bool)
+            → FineStep (cond b (said [] (goto m (suc (m .at)) (m .at ∷ m .boxes))) (chosen m (otherwise items m)))
+        go true =
+            entered-fine (if' c) h (m .vars) (h .vars) (h .cover) (h .cover) (h .covers) (m .boxes)
+            (not-again ok h refl)
         go false = picks-fine h (mates-good ok h)
 
-    loop-fine : (c : Condition) {xs : List Item} (o : Offer) → Here ok m su l p tg k (opens (loop c) ∷ xs) → FineStep (runHead items m (loop c) o)
+    loop-fine : (c : Condition) {xs : List Item} (o : Offer) → Here ok m su l p tg k (opens (loop c) ∷ xs)
+        → FineStep (runHead items m (loop c) o)
     loop-fine c o h = go (holds (m .vars) c)
       where
         go : (b : Bool) → FineStep (cond b (enter aLoop m) (leave items aLoop m))
-        go true = entered-fine (loop c) h (m .vars) (h .vars) (h .cover) (h .cover) (h .covers) (outside (m .at) (m .boxes)) (outside-is ok h)
+        go true =
+            entered-fine (loop c) h (m .vars) (h .vars) (h .cover) (h .cover) (h .covers) (outside (m .at) (m .boxes))
+            (outside-is ok h)
         go false = leave-fine (loop c) aLoop h refl
 
-    point-fine : (w : Sweep) {xs : List Item} (x y : Float) → Here ok m su l p tg k (opens (sweep w) ∷ xs) → FineStep (runPoint m w x y)
+    point-fine : (w : Sweep) {xs : List Item} (x y : Float) → Here ok m su l p tg k (opens (sweep w) ∷ xs)
+        → FineStep (runPoint m w x y)
     point-fine w x y h = go (finite (real x)) (finite (real y)) refl refl
       where
         g : givesOk names (float (w .potential) ∷ float (w .current) ∷ []) ≡ true
@@ -197,18 +245,21 @@ module _ {names size : ℕ} {items : List Item} (ok : Accepted names size items)
         d₂ : differ (kindAt (textKinds items) (w .current)) (known realKind) ≡ false
         d₂ = or-l _ _ d
 
-        go : (a b : Bool) → finite (real x) ≡ a → finite (real y) ≡ b → FineStep (cond (a && b) (enter aSweep (keep m v₂)) (stopsBy code0010 m))
+        go : (a b : Bool) → finite (real x) ≡ a → finite (real y) ≡ b
+            → FineStep (cond (a && b) (enter aSweep (keep m v₂)) (stopsBy code0010 m))
         go true true e f =
             let s₁ = set-vars (m .vars) (w .potential) w₁ (h .vars) e d₁ in
             entered-fine (sweep w) h v₂ (set-vars v₁ (w .current) w₂ s₁ f d₂)
-            (cover-set v₁ (w .current) w₂ (set su (w .potential) true) (s₁ .len) b₂ refl (cover-set (m .vars) (w .potential) w₁ su (h .vars .len) b₁ refl (h .cover)))
+            (cover-set v₁ (w .current) w₂ (set su (w .potential) true) (s₁ .len) b₂ refl
+            (cover-set (m .vars) (w .potential) w₁ su (h .vars .len) b₁ refl (h .cover)))
             (λ n q. written-up v₁ (w .current) w₂ n refl (written-up (m .vars) (w .potential) w₁ n refl (h .cover n q)))
             (all-cover-up v₁ (w .current) w₂ l refl (all-cover-up (m .vars) (w .potential) w₁ l refl (h .covers)))
             (outside (m .at) (m .boxes)) (outside-is ok h)
         go true false e f = stops h code0010 refl
         go false b e f = stops h code0010 refl
 
-    head-fine : (d : Head) {xs : List Item} (o : Offer) → Here ok m su l p tg k (opens d ∷ xs) → FineStep (runHead items m d o)
+    head-fine : (d : Head) {xs : List Item} (o : Offer) → Here ok m su l p tg k (opens d ∷ xs)
+        → FineStep (runHead items m d o)
     head-fine (if' c) o h = if-fine c o h
     head-fine (loop c) o h = loop-fine c o h
     head-fine (sweep w) nothing h = leave-fine (sweep w) aSweep h refl
@@ -216,32 +267,38 @@ module _ {names size : ℕ} {items : List Item} (ok : Accepted names size items)
     head-fine (sweep w) (onePoint q) h = point-fine w (q .potential) (q .current) h
     head-fine (sweep w) done h = leave-fine (sweep w) aSweep h refl
 
-    break-fine : {xs : List Item} → Here ok m su l p tg k (breakloop ∷ xs) → FineStep (runBreak items m (unwind items (m .boxes)))
+    break-fine : {xs : List Item} → Here ok m su l p tg k (breakloop ∷ xs)
+        → FineStep (runBreak items m (unwind items (m .boxes)))
     break-fine {xs} h =
         let r = innermost-loop ok h in
         let f = past-close ok (find-close ok (breakloop ∷ xs) (h .reach) (r .under)) in
         let v = cover-under (m .vars) (r .under) (h .covers) in
         rw (not-again ok h refl, r .found, r .headed .mate)
-        (land ok (f .reach) (inl refl) (h .packed ∙ (clean ok (h .reach)) .packed) (λ n e. v .0 n (f .loops (r .loops) n e)) (v .1) (h .vars) (h .living))
+        (land ok (f .reach) (inl refl) (h .packed ∙ (clean ok (h .reach)) .packed)
+        (λ n e. v .0 n (f .loops (r .loops) n e)) (v .1) (h .vars) (h .living))
 
   -- ---- branch and closing marks
 
   module _ {m : Run} {su : Names} {p tg : Bool} {k : Kinds} where
-    branch-fine : (c : Branch) (l : List Box) {xs : List Item} → Here ok m su l p tg k (branch c ∷ xs) → FineStep (runBranch items m (m .boxes))
+    branch-fine : (c : Branch) (l : List Box) {xs : List Item} → Here ok m su l p tg k (branch c ∷ xs)
+        → FineStep (runBranch items m (m .boxes))
     branch-fine c [] h = no ((clean ok (h .reach)) .placed)
     branch-fine c (b ∷ bs) {xs} h =
         let f = past-close ok (find-close ok xs {b = branchedBox c b su} (more (h .reach)) here) in
         rw (not-again ok h refl, (static ok (h .reach)) .heads .0 .mate)
         (land ok (f .reach) (inl refl) (h .packed ∙ (clean ok (h .reach)) .packed)
-        (λ n e. h .cover n (both-r (b .everyEnd) su n (f .meets (not-t (isLoop (b .sort)) (branch-fits c b bs ((clean ok (h .reach)) .placed))) n e)))
+        (λ n e. h .cover n (both-r (b .everyEnd) su n
+        (f .meets (not-t (isLoop (b .sort)) (branch-fits c b bs ((clean ok (h .reach)) .placed))) n e)))
         (h .covers .1) (h .vars) (h .living))
 
-    close-fine : (e : Close) (l : List Box) {xs : List Item} → Here ok m su l p tg k (closes e ∷ xs) → FineStep (runClose items m e (m .boxes))
+    close-fine : (e : Close) (l : List Box) {xs : List Item} → Here ok m su l p tg k (closes e ∷ xs)
+        → FineStep (runClose items m e (m .boxes))
     close-fine e [] h = no ((clean ok (h .reach)) .placed)
     close-fine endif (b ∷ bs) h =
         rw (not-again ok h refl)
         (land ok (more (h .reach)) (inl refl) (h .packed)
-        (λ n e. h .cover n (left-sure (b .sort) b su (not-t (isLoop (b .sort)) (closes-fits endif b bs ((clean ok (h .reach)) .placed))) n e))
+        (λ n e. h .cover n (left-sure (b .sort) b su
+        (not-t (isLoop (b .sort)) (closes-fits endif b bs ((clean ok (h .reach)) .placed))) n e))
         (h .covers .1) (h .vars) (h .living))
     close-fine endloop (b ∷ bs) {xs} h =
         rw (not-again ok h refl) (go (opensA isSweep (itemAt items (b .at)) && (m .pending || m .skip)))
@@ -252,13 +309,18 @@ module _ {names size : ℕ} {items : List Item} (ok : Accepted names size items)
         g : Headed items (m .at) (erase (b ∷ bs)) (closes endloop ∷ xs) tg b bs
         g = (static ok (h .reach)) .heads .0
 
-        go : (c : Bool) → FineStep (cond c (said (leaves aSweep ∷ []) (unskip true (goto m (suc (m .at)) (positions bs)))) (said [] (goto m (b .at) (b .at ∷ positions bs))))
+        go : (c : Bool)
+            → FineStep (cond c (said (leaves aSweep ∷ []) (unskip true (goto m (suc (m .at)) (positions bs))))
+            (said [] (goto m (b .at) (b .at ∷ positions bs))))
         go true =
-            land ok (more (h .reach)) (inl refl) (h .packed) (λ n e. h .covers .0 n (left-loop (b .sort) b su loops n e)) (h .covers .1) (h .vars) (h .living)
+            land ok (more (h .reach)) (inl refl) (h .packed)
+            (λ n e. h .covers .0 n (left-loop (b .sort) b su loops n e)) (h .covers .1) (h .vars) (h .living)
         go false =
-            land ok (g .reach) (inr (refl, rw (← g .sort) loops)) (h .packed ∙ (clean ok (h .reach)) .packed) (h .covers .0) (h .covers .1) (h .vars) (h .living)
+            land ok (g .reach) (inr (refl, rw (← g .sort) loops)) (h .packed ∙ (clean ok (h .reach)) .packed)
+            (h .covers .0) (h .covers .1) (h .vars) (h .living)
 
-  pub run-fine : {m : Run} {su : Names} {l : List Box} {p tg : Bool} {k : Kinds} (x : Item) {xs : List Item} (o : Offer) → Here ok m su l p tg k (x ∷ xs) → FineStep (run items m x o)
+  pub run-fine : {m : Run} {su : Names} {l : List Box} {p tg : Bool} {k : Kinds} (x : Item) {xs : List Item}
+      (o : Offer) → Here ok m su l p tg k (x ∷ xs) → FineStep (run items m x o)
   run-fine (act a) o h = act-fine a o h
   run-fine (pack q) o h = pack-fine q h
   run-fine (opens d) o h = head-fine d o h

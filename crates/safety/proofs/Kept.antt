@@ -7,7 +7,8 @@ use mathlib.Core.List.{List, []}
 use Rattle.table.specs.declared.Item.{Item}
 use Rattle.state.specs.declared.Control.{Control}
 use Rattle.state.specs.declared.Offer.{Offer}
-use Rattle.state.specs.State.{Status, live, finishedRun, stoppedRun, faultRun, Run, Answer, running, waiting, finished, stopped, fault, refuse, Step, fresh, Meets, ready, short, amiss}
+use Rattle.state.specs.State.{Status, live, finishedRun, stoppedRun, faultRun, Run, Answer, running, waiting, finished}
+use Rattle.state.specs.State.{stopped, fault, refuse, Step, fresh, Meets, ready, short, amiss}
 use Rattle.machine.specs.Machine.{served, told, moved, again}
 use Rattle.safety.specs.Safety.{isAmiss, wrongSort, allowed, unbroken, Promise}
 use Rattle.safety.proofs.Laws.{no′, not-nothing}
@@ -47,8 +48,17 @@ module _ {names size : ℕ} {items : List Item} (ok : Accepted names size items)
     Kept s = Promise items m c o s × Good ok (s .next)
 
     -- an offer that is not of the wrong sort
-    right-kept : {s : Step} → wrongSort items m c o ≡ false → allowed (s .answer) ≡ true → refuses (s .answer) ≡ false → Good ok (s .next) → Kept s
-    right-kept w a n g = (record { answer = a; state = good-unbroken g; wrong-sort = λ e f. no′ (sym w ∙ f); only-wrong = λ e. no′ (sym n ∙ ap refuses e) }, g)
+    right-kept : {s : Step} → wrongSort items m c o ≡ false → allowed (s .answer) ≡ true → refuses (s .answer) ≡ false
+        → Good ok (s .next) → Kept s
+    right-kept w a n g = (
+      record {
+        answer = a;
+        state = good-unbroken g;
+        wrong-sort = λ e f. no′ (sym w ∙ f);
+        only-wrong = λ e. no′ (sym n ∙ ap refuses e);
+      },
+      g,
+    )
 
     made-kept : {s : Step} → wrongSort items m c o ≡ false → FineStep ok s → Kept s
     made-kept {s} w f = go (s .answer) refl f
@@ -64,14 +74,27 @@ module _ {names size : ℕ} {items : List Item} (ok : Accepted names size items)
     comes-kept : {s : Step} → m .status ≡ live → Good ok m → Comes ok m (wrongSort items m c o) s → Kept s
     comes-kept a g f = rw (f .is) (go (f .met) (f .amiss-is) (f .waits))
       where
-        go : (d : Meets) → isAmiss d ≡ wrongSort items m c o → (isShort d ≡ true → Good ok (f .m₁)) → Kept (served m (f .m₁) d (f .made))
+        go : (d : Meets) → isAmiss d ≡ wrongSort items m c o → (isShort d ≡ true → Good ok (f .m₁))
+            → Kept (served m (f .m₁) d (f .made))
         go ready e w = made-kept (sym e) (f .fine)
         go short e w = right-kept (sym e) refl refl (w refl)
-        go amiss e w = (record { answer = refl; state = good-unbroken g; wrong-sort = λ p q. refl; only-wrong = λ q. (a, sym e) }, g)
+        go amiss e w = (
+          record { answer = refl; state = good-unbroken g; wrong-sort = λ p q. refl; only-wrong = λ q. (a, sym e) },
+          g,
+        )
 
     -- a run that has ended repeats its answer
-    over-kept : (a : Answer) → allowed a ≡ true → refuses a ≡ false → lives (m .status) ≡ false → Good ok m → Kept (record { answer = a; outs = []; next = m })
-    over-kept a h n l g = (record { answer = h; state = good-unbroken g; wrong-sort = λ e f. no′ (sym l ∙ ap lives e); only-wrong = λ e. no′ (sym n ∙ ap refuses e) }, g)
+    over-kept : (a : Answer) → allowed a ≡ true → refuses a ≡ false → lives (m .status) ≡ false → Good ok m
+        → Kept (record { answer = a; outs = []; next = m })
+    over-kept a h n l g = (
+      record {
+        answer = h;
+        state = good-unbroken g;
+        wrong-sort = λ e f. no′ (sym l ∙ ap lives e);
+        only-wrong = λ e. no′ (sym n ∙ ap refuses e);
+      },
+      g,
+    )
 
     pub again-kept : Good ok m → Kept (again (m .status) m (moved items m (told items m c) o))
     again-kept g = go (m .status) refl (g .life)

@@ -14,7 +14,8 @@ use Rattle.table.specs.declared.Branch.{Branch}
 use Rattle.table.specs.declared.Branch.the-variants.{ElseIf as elseif, Else as else}
 use Rattle.table.specs.declared.Close.{Close}
 use Rattle.table.specs.declared.Item.{Item}
-use Rattle.table.specs.declared.Item.the-variants.{Act as act, Pack as pack, Open as opens, Branch as branch, Close as closes, Break as breakloop, Tag as tag}
+use Rattle.table.specs.declared.Item.the-variants.{Act as act, Pack as pack, Open as opens, Branch as branch}
+use Rattle.table.specs.declared.Item.the-variants.{Close as closes, Break as breakloop, Tag as tag}
 use Rattle.table.specs.declared.Sort.{Sort}
 use Rattle.table.specs.declared.Sort.the-variants.{If as ifBox, Loop as loopBox, Sweep as sweepBox}
 use Rattle.table.specs.declared.Want.{Want}
@@ -84,26 +85,31 @@ left-loop sweepBox c su e = λ n h. h
 
 -- after endif, what holds at the end of the branches before the last
 left-meet : (o : Sort) (c : Box) (su : Names) → isLoop o ≡ false → Sub (afterBox o (plain c) su) (c .everyEnd)
-left-meet ifBox c su e n h = both-l (c .everyEnd) su n (both-l (both (c .everyEnd) su) (cond (c .elseSeen) everything (c .before)) n h)
+left-meet ifBox c su e n h =
+    both-l (c .everyEnd) su n (both-l (both (c .everyEnd) su) (cond (c .elseSeen) everything (c .before)) n h)
 left-meet loopBox c su e n h = no e
 left-meet sweepBox c su e n h = no e
 
 -- of the last
 pub left-sure : (o : Sort) (c : Box) (su : Names) → isLoop o ≡ false → Sub (afterBox o (plain c) su) su
-left-sure ifBox c su e n h = both-r (c .everyEnd) su n (both-l (both (c .everyEnd) su) (cond (c .elseSeen) everything (c .before)) n h)
+left-sure ifBox c su e n h =
+    both-r (c .everyEnd) su n (both-l (both (c .everyEnd) su) (cond (c .elseSeen) everything (c .before)) n h)
 left-sure loopBox c su e n h = no e
 left-sure sweepBox c su e n h = no e
 
 -- and, with no else, what held before the if
-left-before : (o : Sort) (c : Box) (su : Names) → isLoop o ≡ false → c .elseSeen ≡ false → Sub (afterBox o (plain c) su) (c .before)
-left-before ifBox c su e f n h = rw f at (both-r (both (c .everyEnd) su) (cond (c .elseSeen) everything (c .before)) n h)
+left-before : (o : Sort) (c : Box) (su : Names) → isLoop o ≡ false → c .elseSeen ≡ false
+    → Sub (afterBox o (plain c) su) (c .before)
+left-before ifBox c su e f n h =
+    rw f at (both-r (both (c .everyEnd) su) (cond (c .elseSeen) everything (c .before)) n h)
 left-before loopBox c su e f n h = no e
 left-before sweepBox c su e f n h = no e
 
 -- a false condition leads into a branch of the box over bs, or past its endif
 pub data Picks (items : List Item) (at : ℕ) (before : Names) (bs : List Box) : Chosen → Type 0 where
   goes : {i : ℕ} {c : Box} {tg : Bool} {k : Kinds} {ys : List Item}
-      → Reach items i (state before (c ∷ bs) false tg) k ys → c .at ≡ at → c .before ≡ before → Picks items at before bs (into i)
+      → Reach items i (state before (c ∷ bs) false tg) k ys → c .at ≡ at → c .before ≡ before
+      → Picks items at before bs (into i)
   passes : {i : ℕ} {su : Names} {tg : Bool} {k : Kinds} {ys : List Item}
       → Reach items i (state su bs false tg) k ys → Sub su before → Picks items at before bs (beyond i)
 
@@ -113,13 +119,15 @@ no-mark x f p (o ∷ st) = rw (f (o .sort))
 
 -- the box over bs after a branch mark
 abbrev pub branchedBox : Branch → Box → Names → Box
-branchedBox x b su = record { at = b .at; sort = b .sort; before = b .before; everyEnd = both (b .everyEnd) su; elseSeen = isElse x }
+branchedBox x b su =
+    record { at = b .at; sort = b .sort; before = b .before; everyEnd = both (b .everyEnd) su; elseSeen = isElse x }
 
 abbrev pub boxOf : ℕ → Head → Names → Box
 boxOf i h su = record { at = i; sort = sortOf h; before = su; everyEnd = everything; elseSeen = false }
 
 module _ {names size : ℕ} {items : List Item} (ok : Accepted names size items) where
-  pub find-close : (xs : List Item) {i : ℕ} {su : Names} {l : List Box} {p tg : Bool} {k : Kinds} {b : Box} {bs : List Box}
+  pub find-close : (xs : List Item) {i : ℕ} {su : Names} {l : List Box} {p tg : Bool} {k : Kinds} {b : Box}
+      {bs : List Box}
       → Reach items i (state su l p tg) k xs → Under b bs l → Closes items b bs (closeFrom (b .at) i (erase l) xs)
   find-close [] r u = no (sym ((ends ok r) .0) ∙ under-some u)
   find-close (act a ∷ xs) r u = find-close xs (more r) u
@@ -137,7 +145,13 @@ module _ {names size : ℕ} {items : List Item} (ok : Accepted names size items)
         ys = f .ys;
         c = f .c;
         reach = f .reach;
-        same = record { at = f .same .at; sort = f .same .sort; before = f .same .before; meet = λ n h. both-l (b .everyEnd) su n (f .same .meet n h) };
+        same =
+            record {
+              at = f .same .at;
+              sort = f .same .sort;
+              before = f .same .before;
+              meet = λ n h. both-l (b .everyEnd) su n (f .same .meet n h);
+            };
         is = f .is;
       }
   find-close (branch x ∷ xs) r (there u) = find-close xs (more r) (there u)
@@ -156,14 +170,17 @@ module _ {names size : ℕ} {items : List Item} (ok : Accepted names size items)
   }
   find-close (closes x ∷ xs) {i} {b = b} r (there {c = c} {l = d} u) =
       let lower : b .at < c .at = under-below (c .at) u ((static ok r) .below .1) in
-      let q : closeFrom (b .at) i (erase (c ∷ d)) (closes x ∷ xs) ≡ closeFrom (b .at) (suc i) (erase d) xs = rw (closes-fits x c d ((clean ok r) .placed), ne-eqb (c .at) (b .at) (λ e. omega arith)) in
+      let q : closeFrom (b .at) i (erase (c ∷ d)) (closes x ∷ xs) ≡ closeFrom (b .at) (suc i) (erase d) xs =
+      rw (closes-fits x c d ((clean ok r) .placed), ne-eqb (c .at) (b .at) (λ e. omega arith)) in
       rw q (find-close xs (more r) u)
   find-close (breakloop ∷ xs) r u = find-close xs (more r) u
-  find-close (tag ∷ xs) {l = l} {tg = tg} r u = no (ap not (sym (under-some u)) ∙ or-r tg (not (isEmpty (plains l))) ((clean ok r) .tagged))
+  find-close (tag ∷ xs) {l = l} {tg = tg} r u =
+      no (ap not (sym (under-some u)) ∙ or-r tg (not (isEmpty (plains l))) ((clean ok r) .tagged))
 
   pub past-close : {b : Box} {bs : List Box} {found : Option ℕ} → Closes items b bs found → Past items b bs (past found)
   past-close {b} {bs} f =
-      let r : Reach items (f .j) (state (f .su) (f .c ∷ bs) false (f .tg)) (f .k) (closes (f .e) ∷ f .ys) = rw ((clean ok (f .reach)) .packed) at (f .reach) in
+      let r : Reach items (f .j) (state (f .su) (f .c ∷ bs) false (f .tg)) (f .k) (closes (f .e) ∷ f .ys) =
+      rw ((clean ok (f .reach)) .packed) at (f .reach) in
       rw (f .is) (record {
         su = afterBox (f .c .sort) (plain (f .c)) (f .su);
         tg = f .tg;
@@ -182,10 +199,12 @@ module _ {names size : ℕ} {items : List Item} (ok : Accepted names size items)
 
   -- reads that the checker lets through, with su surely written, have no fault
   abbrev pub Readable : Names → Vars → Type 0
-  Readable su vs = (ws : List Want) → missing (has su) ws ≡ false → wrong (kindAt (textKinds items)) ws ≡ false → lowest (readFaults vs ws) ≡ 0
+  Readable su vs = (ws : List Want) → missing (has su) ws ≡ false → wrong (kindAt (textKinds items)) ws ≡ false
+      → lowest (readFaults vs ws) ≡ 0
 
   -- a mark belongs to no box below the innermost
-  other-box : (x : Item) {i : ℕ} {su : Names} {c : Box} {l : List Box} {p tg : Bool} {k : Kinds} {b : Box} {bs : List Box} {xs : List Item}
+  other-box : (x : Item) {i : ℕ} {su : Names} {c : Box} {l : List Box} {p tg : Bool} {k : Kinds} {b : Box}
+      {bs : List Box} {xs : List Item}
       → Reach items i (state su (c ∷ l) p tg) k xs → Under b bs l → belongs (b .at) x (erase (c ∷ l)) ≡ false
   other-box x {c = c} {b = b} r u = go (fits x (c .sort))
     where
@@ -197,27 +216,40 @@ module _ {names size : ℕ} {items : List Item} (ok : Accepted names size items)
       go false = refl
 
   module _ (vs : Vars) where
-    pub choose-good : (xs : List Item) {i : ℕ} {su : Names} {l : List Box} {p tg : Bool} {k : Kinds} {b : Box} {bs : List Box}
-        → Reach items i (state su l p tg) k xs → Under b bs l → b .elseSeen ≡ false → isLoop (b .sort) ≡ false → Readable (b .before) vs
+    pub choose-good : (xs : List Item) {i : ℕ} {su : Names} {l : List Box} {p tg : Bool} {k : Kinds} {b : Box}
+        {bs : List Box}
+        → Reach items i (state su l p tg) k xs → Under b bs l → b .elseSeen ≡ false → isLoop (b .sort) ≡ false
+        → Readable (b .before) vs
         → Picks items (b .at) (b .before) bs (choose vs (b .at) i (erase l) xs)
     choose-good [] r u e f g = no (sym ((ends ok r) .0) ∙ under-some u)
-    choose-good (act a ∷ xs) {l = l} {b = b} r u e f g = rw (no-mark (act a) (λ o. refl) (b .at) (erase l)) (choose-good xs (more r) u e f g)
-    choose-good (pack q ∷ xs) {l = l} {b = b} r u e f g = rw (no-mark (pack q) (λ o. refl) (b .at) (erase l)) (choose-good xs (more r) u e f g)
-    choose-good (opens h ∷ xs) {l = l} {b = b} r u e f g = rw (no-mark (opens h) (λ o. refl) (b .at) (erase l)) (choose-good xs (more r) (there u) e f g)
+    choose-good (act a ∷ xs) {l = l} {b = b} r u e f g =
+        rw (no-mark (act a) (λ o. refl) (b .at) (erase l)) (choose-good xs (more r) u e f g)
+    choose-good (pack q ∷ xs) {l = l} {b = b} r u e f g =
+        rw (no-mark (pack q) (λ o. refl) (b .at) (erase l)) (choose-good xs (more r) u e f g)
+    choose-good (opens h ∷ xs) {l = l} {b = b} r u e f g =
+        rw (no-mark (opens h) (λ o. refl) (b .at) (erase l)) (choose-good xs (more r) (there u) e f g)
     choose-good (branch (elseif c) ∷ xs) {i} {su} {p = p} {tg = tg} {k = k} {b = b} {bs = bs} r here e f g =
-        let r′ : Reach items i (state su (b ∷ bs) false tg) k (branch (elseif c) ∷ xs) = rw ((clean ok r) .packed) at r in
+        let r′ : Reach items i (state su (b ∷ bs) false tg) k (branch (elseif c) ∷ xs) =
+        rw ((clean ok r) .packed) at r in
         let rest = choose-good xs {b = branchedBox (elseif c) b su} (more r′) here refl f g in
-        let pick : (h : Bool) → Picks items (b .at) (b .before) bs (cond h (into (suc i)) (choose vs (b .at) (suc i) (erase (b ∷ bs)) xs)) =
+        let pick : (h : Bool)
+        → Picks items (b .at) (b .before) bs
+        (cond h (into (suc i)) (choose vs (b .at) (suc i) (erase (b ∷ bs)) xs)) =
         λ h. elim h [ true ↦ goes (more r′) refl refl | false ↦ rest ] in
-        rw (f, eq-eqb (b .at) (b .at) refl, g (conditionUses c) (rw f at ((clean ok r) .there)) ((clean ok r) .kinds)) (pick (holds vs c))
+        rw (f, eq-eqb (b .at) (b .at) refl, g (conditionUses c) (rw f at ((clean ok r) .there)) ((clean ok r) .kinds))
+        (pick (holds vs c))
     choose-good (branch else ∷ xs) {i} {su} {p = p} {tg = tg} {k = k} {b = b} {bs = bs} r here e f g =
         let r′ : Reach items i (state su (b ∷ bs) false tg) k (branch else ∷ xs) = rw ((clean ok r) .packed) at r in
         rw (f, eq-eqb (b .at) (b .at) refl) (goes (more r′) refl refl)
-    choose-good (branch x ∷ xs) r (there u) e f g = rw (other-box (branch x) r u) (choose-good xs (more r) (there u) e f g)
+    choose-good (branch x ∷ xs) r (there u) e f g =
+        rw (other-box (branch x) r u) (choose-good xs (more r) (there u) e f g)
     choose-good (closes x ∷ xs) {i} {su} {p = p} {tg = tg} {k = k} {b = b} {bs = bs} r here e f g =
         let r′ : Reach items i (state su (b ∷ bs) false tg) k (closes x ∷ xs) = rw ((clean ok r) .packed) at r in
-        rw (closes-fits x b bs ((clean ok r) .placed), eq-eqb (b .at) (b .at) refl) (passes (more r′) (left-before (b .sort) b su f e))
+        rw (closes-fits x b bs ((clean ok r) .placed), eq-eqb (b .at) (b .at) refl)
+        (passes (more r′) (left-before (b .sort) b su f e))
     choose-good (closes x ∷ xs) r (there {c = c} {l = d} u) e f g =
         rw (other-box (closes x) r u, closes-fits x c d ((clean ok r) .placed)) (choose-good xs (more r) u e f g)
-    choose-good (breakloop ∷ xs) {l = l} {b = b} r u e f g = rw (no-mark breakloop (λ o. refl) (b .at) (erase l)) (choose-good xs (more r) u e f g)
-    choose-good (tag ∷ xs) {l = l} {tg = tg} r u e f g = no (ap not (sym (under-some u)) ∙ or-r tg (not (isEmpty (plains l))) ((clean ok r) .tagged))
+    choose-good (breakloop ∷ xs) {l = l} {b = b} r u e f g =
+        rw (no-mark breakloop (λ o. refl) (b .at) (erase l)) (choose-good xs (more r) u e f g)
+    choose-good (tag ∷ xs) {l = l} {tg = tg} r u e f g =
+        no (ap not (sym (under-some u)) ∙ or-r tg (not (isEmpty (plains l))) ((clean ok r) .tagged))

@@ -59,7 +59,8 @@ cells-ok (v ∷ vs) f = rw (f 0) (cells-ok vs (λ n. f (suc n)))
 -- ---- writing a name
 
 module _ (vs : Vars) (v : ℕ) (w : Cell) where
-  pub set-vars : {k : Kinds} → VarsOk k vs → cellOk w ≡ true → differ (kindAt k v) (cellKind w) ≡ false → VarsOk k (set vs v w)
+  pub set-vars : {k : Kinds} → VarsOk k vs → cellOk w ≡ true → differ (kindAt k v) (cellKind w) ≡ false
+      → VarsOk k (set vs v w)
   set-vars {k} o f d = record {
     len = length-set vs v w ∙ o .len;
     agree = λ n. agrees n (getD-set vs v w n unwritten);
@@ -85,7 +86,8 @@ module _ (vs : Vars) (v : ℕ) (w : Cell) where
   all-cover-up [] e h = tt
   all-cover-up (b ∷ bs) e h = (λ n q. written-up n e (h .0 n q), all-cover-up bs e (h .1))
 
-  pub cover-set : (su : Names) → length vs ≡ 32 → v < 32 → isWritten w ≡ true → Covers su vs → Covers (set su v true) (set vs v w)
+  pub cover-set : (su : Names) → length vs ≡ 32 → v < 32 → isWritten w ≡ true → Covers su vs
+      → Covers (set su v true) (set vs v w)
   cover-set su l u e c n h = go (getD-set su v true n false)
     where
       go : AfterSet su v true n false → written (set vs v w) n ≡ true
@@ -121,7 +123,8 @@ pub record Knows (k : Kinds) (su : Names) (vs : Vars) : Type 0 where
 
 module _ {k : Kinds} {su : Names} {vs : Vars} (a : Knows k su vs) where
   pub kind-now : (n : ℕ) → has su n ≡ true → kindNow vs n ≡ kindAt k n
-  kind-now n h = same-kind (kindAt k n) (kindNow vs n) (a .kinds n h) (known-cell (cellAt vs n) (a .cover n h)) (a .vars .agree n)
+  kind-now n h =
+      same-kind (kindAt k n) (kindNow vs n) (a .kinds n h) (known-cell (cellAt vs n) (a .cover n h)) (a .vars .agree n)
 
   here-now : (x : Operand) → gone (has su) x ≡ false → gone (written vs) x ≡ false
   here-now (name n) h = rw (a .cover n (not-f (has su n) h))

@@ -15,8 +15,10 @@ use Rattle.rules.specs.Check.{accepted, verdict}
 use Rattle.state.specs.declared.Control.{Control}
 use Rattle.state.specs.declared.Control.the-variants.{None as noControl, Z, Y}
 use Rattle.state.specs.declared.Offer.{Offer}
-use Rattle.state.specs.declared.Offer.the-variants.{Nothing as nothing, Float as oneFloat, Point as onePoint, Done as done}
-use Rattle.state.specs.State.{da, ba, code0010, Run, Out, enters, leaves, packStart, packEnd, packPart, says, waits, setsE, setsMode, switchesCell, Answer, running, waiting, finished, stopped, refuse, fresh}
+use Rattle.state.specs.declared.Offer.the-variants.{Nothing as nothing, Float as oneFloat, Point as onePoint}
+use Rattle.state.specs.declared.Offer.the-variants.{Done as done}
+use Rattle.state.specs.State.{da, ba, code0010, Run, Out, enters, leaves, packStart, packEnd, packPart, says, waits}
+use Rattle.state.specs.State.{setsE, setsMode, switchesCell, Answer, running, waiting, finished, stopped, refuse, fresh}
 use Rattle.machine.specs.Machine.{step}
 use Rattle.safety.specs.Texts.{night}
 use Rattle.safety.proofs.Opened.{all}
@@ -28,7 +30,8 @@ Entry = Control × Offer × Answer × List Out
 -- the steps of a run, told and offered as the entries say
 unfoldable pub log : ℕ → Script → Run → List Entry → List Entry
 log size t m [] = []
-log size t m (e ∷ es) = let s = step size t m (e .0) (e .1) in (e .0, e .1, s .answer, s .outs) ∷ log size t (s .next) es
+log size t m (e ∷ es) = let s = step size t m (e .0) (e .1) in
+    (e .0, e .1, s .answer, s .outs) ∷ log size t (s .next) es
 
 abbrev goes : List Out → Entry
 goes os = (noControl, nothing, running, os)
@@ -41,7 +44,9 @@ abbrev at : ℕ → ℕ → Offer
 at x y = onePoint (record { potential = volts x; current = volts y })
 
 abbrev packed : ℕ → ℕ → List Entry
-packed x y = goes (packStart ∷ []) ∷ goes (packPart (real (volts x)) da ∷ []) ∷ goes (packPart (real (volts y)) ba ∷ []) ∷ goes (packEnd ∷ []) ∷ []
+packed x y =
+    goes (packStart ∷ []) ∷ goes (packPart (real (volts x)) da ∷ []) ∷ goes (packPart (real (volts y)) ba ∷ [])
+    ∷ goes (packEnd ∷ []) ∷ []
 
 -- up to the first measuring loop
 abbrev settle : List Entry

@@ -10,7 +10,8 @@ use borrow.Author.Tests.{eq-eqb}
 use Rattle.table.specs.declared.Condition.{Condition}
 use Rattle.table.specs.declared.Head.the-variants.{If as if', Loop as loop, Sweep as sweep}
 use Rattle.table.specs.declared.Item.{Item}
-use Rattle.table.specs.declared.Item.the-variants.{Act as act, Pack as pack, Open as opens, Branch as branch, Close as closes, Break as breakloop, Tag as tag}
+use Rattle.table.specs.declared.Item.the-variants.{Act as act, Pack as pack, Open as opens, Branch as branch}
+use Rattle.table.specs.declared.Item.the-variants.{Close as closes, Break as breakloop, Tag as tag}
 use Rattle.table.specs.declared.Want.{Want}
 use Rattle.table.specs.Item.{isOpen, isLoop, opensA, fits}
 use Rattle.table.specs.Uses.{actUses, uses, Kinds, wrong, Names, missing, lowest}
@@ -24,7 +25,8 @@ use Rattle.safety.proofs.Laws.{no, no′, not-f, drop-getD}
 use Rattle.safety.proofs.Walk.{textKinds, Accepted, more, Clean, closes-fits, branch-fits, clean}
 use Rattle.safety.proofs.Boxes.{erase, Headed, Heads}
 use Rattle.safety.proofs.Static.{static}
-use Rattle.safety.proofs.Mates.{no-mark, Under, here, there, Picks, goes, passes, close-head, Readable, choose-good}
+use Rattle.safety.proofs.Mates.{no-mark, Under, here, there, Picks, goes, passes, close-head, Readable}
+use Rattle.safety.proofs.Mates.{choose-good}
 use Rattle.safety.proofs.Names.{Knows, there-now, wrong-now}
 use Rattle.safety.proofs.Stands.{positions, length-positions, Opened, Here, not-again, knows}
 
@@ -42,10 +44,12 @@ module _ {names size : ℕ} {items : List Item} (ok : Accepted names size items)
   NoFault ws vs = (missing (written vs) ws ≡ false) × (wrong (kindNow vs) ws ≡ false)
 
   -- the item x reads only what is written, and of the right kinds
-  reads-fine : (x : Item) {s : Placed} {vs : Vars} → Clean (textKinds items) s x → Knows (textKinds items) (s .sure) vs → NoFault (reads x) vs
+  reads-fine : (x : Item) {s : Placed} {vs : Vars} → Clean (textKinds items) s x → Knows (textKinds items) (s .sure) vs
+      → NoFault (reads x) vs
   reads-fine (act a) c n = (there-now n (actUses a) (c .there), wrong-now n (actUses a) (c .there) ∙ c .kinds)
   reads-fine (pack p) c n = (there-now n (uses (pack p)) (c .there), wrong-now n (uses (pack p)) (c .there) ∙ c .kinds)
-  reads-fine (opens h) c n = (there-now n (uses (opens h)) (c .there), wrong-now n (uses (opens h)) (c .there) ∙ c .kinds)
+  reads-fine (opens h) c n =
+      (there-now n (uses (opens h)) (c .there), wrong-now n (uses (opens h)) (c .there) ∙ c .kinds)
   reads-fine (branch b) c n = (refl, refl)
   reads-fine (closes e) c n = (refl, refl)
   reads-fine breakloop c n = (refl, refl)
@@ -62,26 +66,42 @@ module _ {names size : ℕ} {items : List Item} (ok : Accepted names size items)
     pub loops : isLoop (b .sort) ≡ true
     pub found : unwind items (positions l) ≡ b .at ∷ positions bs
 
-  pub find-loop : (i : ℕ) (st : List Open) (xs : List Item) (tg : Bool) (l : List Box) → Heads items i st xs tg l → anyBox isLoop (plains l) ≡ true → Loop i st xs tg l
+  pub find-loop : (i : ℕ) (st : List Open) (xs : List Item) (tg : Bool) (l : List Box) → Heads items i st xs tg l
+      → anyBox isLoop (plains l) ≡ true → Loop i st xs tg l
   find-loop i st xs tg [] h a = no′ a
   find-loop i st xs tg (b ∷ bs) h a = go (isLoop (b .sort)) refl (λ q. find-loop i st xs tg bs (h .1) q)
     where
       item : opensA isLoop (itemAt items (b .at)) ≡ isLoop (b .sort)
-      item = rw (drop-getD (b .at) items tag (opens (h .0 .head)) (h .0 .body) ((static ok (h .0 .reach)) .text), h .0 .sort)
+      item =
+          rw (
+            drop-getD (b .at) items tag (opens (h .0 .head)) (h .0 .body) ((static ok (h .0 .reach)) .text),
+            h .0 .sort,
+          )
 
-      go : (f : Bool) → isLoop (b .sort) ≡ f → (anyBox isLoop (plains bs) ≡ true → Loop i st xs tg bs) → Loop i st xs tg (b ∷ bs)
+      go : (f : Bool) → isLoop (b .sort) ≡ f → (anyBox isLoop (plains bs) ≡ true → Loop i st xs tg bs)
+          → Loop i st xs tg (b ∷ bs)
       go true e rec = record { b = b; bs = bs; under = here; headed = h .0; loops = e; found = rw (item, e) }
       go false e rec =
           let r = rec (rw e at a) in
-          record { b = r .b; bs = r .bs; under = there (r .under); headed = r .headed; loops = r .loops; found = rw (item, e) (r .found) }
+          record {
+            b = r .b;
+            bs = r .bs;
+            under = there (r .under);
+            headed = r .headed;
+            loops = r .loops;
+            found = rw (item, e) (r .found);
+          }
 
-  pub innermost-loop : {m : Run} {su : Names} {l : List Box} {p tg : Bool} {k : Kinds} {xs : List Item} → Here ok m su l p tg k (breakloop ∷ xs)
+  pub innermost-loop : {m : Run} {su : Names} {l : List Box} {p tg : Bool} {k : Kinds} {xs : List Item}
+      → Here ok m su l p tg k (breakloop ∷ xs)
       → Loop (m .at) (erase l) (breakloop ∷ xs) tg l
   innermost-loop {l = []} h = no ((clean ok (h .reach)) .placed)
   innermost-loop {m} {l = b ∷ bs} {tg = tg} {xs = xs} h =
-      find-loop (m .at) (erase (b ∷ bs)) (breakloop ∷ xs) tg (b ∷ bs) ((static ok (h .reach)) .heads) (not-f (anyBox isLoop (plains (b ∷ bs))) ((clean ok (h .reach)) .placed))
+      find-loop (m .at) (erase (b ∷ bs)) (breakloop ∷ xs) tg (b ∷ bs) ((static ok (h .reach)) .heads)
+      (not-f (anyBox isLoop (plains (b ∷ bs))) ((clean ok (h .reach)) .placed))
 
-  strays-not : (x : Item) {ps : List ℕ} (b : Box) (bs : List Box) → ps ≡ positions (b ∷ bs) → fits x (b .sort) ≡ true → strays x ps (erase (b ∷ bs)) ≡ false
+  strays-not : (x : Item) {ps : List ℕ} (b : Box) (bs : List Box) → ps ≡ positions (b ∷ bs) → fits x (b .sort) ≡ true
+      → strays x ps (erase (b ∷ bs)) ≡ false
   strays-not x b bs q f = rw (q, f, eq-eqb (b .at) (b .at) refl)
 
   module _ {m : Run} {su : Names} {p tg : Bool} {k : Kinds} {xs : List Item} where
@@ -91,22 +111,30 @@ module _ {names size : ℕ} {items : List Item} (ok : Accepted names size items)
     not-astray (opens a) l h = rw ((close-head ok (h .reach)) .is)
     not-astray (branch a) [] h = no ((clean ok (h .reach)) .placed)
     not-astray (branch a) (b ∷ bs) h =
-        rw ((static ok (h .reach)) .scanned, strays-not (branch a) b bs (not-again ok h refl) (branch-fits a b bs ((clean ok (h .reach)) .placed)))
+        rw (
+          (static ok (h .reach)) .scanned,
+          strays-not (branch a) b bs (not-again ok h refl) (branch-fits a b bs ((clean ok (h .reach)) .placed)),
+        )
     not-astray (closes a) [] h = no ((clean ok (h .reach)) .placed)
     not-astray (closes a) (b ∷ bs) h =
-        rw ((static ok (h .reach)) .scanned, strays-not (closes a) b bs (not-again ok h refl) (closes-fits a b bs ((clean ok (h .reach)) .placed)))
+        rw (
+          (static ok (h .reach)) .scanned,
+          strays-not (closes a) b bs (not-again ok h refl) (closes-fits a b bs ((clean ok (h .reach)) .placed)),
+        )
     not-astray breakloop l h = rw (not-again ok h refl, (innermost-loop h) .found)
     not-astray tag l h = refl
 
   -- ---- 63, and all of them
 
-  module _ {m : Run} {su : Names} {l : List Box} {p tg : Bool} {k : Kinds} {x : Item} {xs : List Item} (h : Here ok m su l p tg k (x ∷ xs)) where
+  module _ {m : Run} {su : Names} {l : List Box} {p tg : Bool} {k : Kinds} {x : Item} {xs : List Item}
+      (h : Here ok m su l p tg k (x ∷ xs)) where
     not-full : tooDeep m x ≡ false
     not-full = go (h .boxes)
       where
         go : Opened (m .at) (x ∷ xs) (m .boxes) l → tooDeep m x ≡ false
         go (inl q) = rw (q, length-positions l, (clean ok (h .reach)) .eighth)
-        go (inr q) = rw (q .0, q .1, eq-eqb (m .at) (m .at) refl) (and-false (isOpen x && leb 8 (suc (length (positions l)))))
+        go (inr q) =
+            rw (q .0, q .1, eq-eqb (m .at) (m .at) refl) (and-false (isOpen x && leb 8 (suc (length (positions l)))))
 
     pub no-fault : lowest (faults items m x) ≡ 0
     no-fault =
@@ -116,17 +144,20 @@ module _ {names size : ℕ} {items : List Item} (ok : Accepted names size items)
 
   -- ---- the mates that a false condition tries
 
-  module _ {m : Run} {su : Names} {l : List Box} {p tg : Bool} {k : Kinds} {c : Condition} {xs : List Item} (h : Here ok m su l p tg k (opens (if' c) ∷ xs)) where
+  module _ {m : Run} {su : Names} {l : List Box} {p tg : Bool} {k : Kinds} {c : Condition} {xs : List Item}
+      (h : Here ok m su l p tg k (opens (if' c) ∷ xs)) where
     pub mates-good : Picks items (m .at) su l (otherwise items m)
     mates-good =
         let s = static ok (h .reach) in
-        rw (s .scanned, s .text, no-mark (opens (if' c)) (λ s. refl) (m .at) (erase l)) (choose-good ok (m .vars) xs (more (h .reach)) here refl refl (readable (knows ok h)))
+        rw (s .scanned, s .text, no-mark (opens (if' c)) (λ s. refl) (m .at) (erase l))
+        (choose-good ok (m .vars) xs (more (h .reach)) here refl refl (readable (knows ok h)))
 
   picks-good : {i : ℕ} {su : Names} {l : List Box} {d : Chosen} → Picks items i su l d → badOf d ≡ 0
   picks-good (goes r e f) = refl
   picks-good (passes r e) = refl
 
-  pub no-try : {m : Run} {su : Names} {l : List Box} {p tg : Bool} {k : Kinds} (x : Item) {xs : List Item} → Here ok m su l p tg k (x ∷ xs) → tries items m x ≡ 0
+  pub no-try : {m : Run} {su : Names} {l : List Box} {p tg : Bool} {k : Kinds} (x : Item) {xs : List Item}
+      → Here ok m su l p tg k (x ∷ xs) → tries items m x ≡ 0
   no-try (act a) h = refl
   no-try (pack q) h = refl
   no-try {m} (opens (if' c)) h = go (holds (m .vars) c)

@@ -17,5 +17,16 @@ use Rattle.machine.specs.Course
 use lib.Ieee
 
 unfoldable pub all : Unit {0}
-unfolding Ieee.ofInt Ieee.div Ieee.mul Arithmetic.rest Arithmetic.signedWord Arithmetic.wrap Arithmetic.wholes Arithmetic.isFinite Arithmetic.isZero Arithmetic.checked Arithmetic.reals Arithmetic.calculated Arithmetic.finite Arithmetic.same Arithmetic.compareWholes Arithmetic.compareReals Arithmetic.compares Literal.plain Literal.times Literal.over Prefix.inSteps Prefix.prefixOf Literal.lettered Literal.suffixed Literal.finish Literal.readDigits Literal.literal Bytes.blank Bytes.digit Bytes.lower Bytes.letter Bytes.starts Bytes.nameByte Cut.before Cut.cut Word.inClass Word.run Word.wordAt Word.skipped Word.nameForm Word.readType Word.readSmall Word.smallOf Word.padded Word.sameBytes Word.place Word.seek Argument.emptySaid Argument.nameSaid Argument.newSaid Argument.literalSaid Argument.operandSaid Argument.typeSaid Argument.numberSaid Argument.signs Argument.comparisonAt Argument.comparisonSaid Argument.said Argument.textAt Argument.saidAt Refusal.numberOf Command.tagCommand Command.commands Command.commandWords Command.commandAt Command.formOf Line.meaning Line.argumentsAt Line.lower Line.lowest Line.judged Load.counted Load.appended Load.lineStep Load.nameRow Load.named Load.walk Load.loaded Shape.inShape Check.verdict Machine.step Course.runFrom
+unfolding Ieee.ofInt Ieee.div Ieee.mul Arithmetic.rest Arithmetic.signedWord Arithmetic.wrap Arithmetic.wholes
+    Arithmetic.isFinite Arithmetic.isZero Arithmetic.checked Arithmetic.reals Arithmetic.calculated Arithmetic.finite
+    Arithmetic.same Arithmetic.compareWholes Arithmetic.compareReals Arithmetic.compares Literal.plain Literal.times
+    Literal.over Prefix.inSteps Prefix.prefixOf Literal.lettered Literal.suffixed Literal.finish Literal.readDigits
+    Literal.literal Bytes.blank Bytes.digit Bytes.lower Bytes.letter Bytes.starts Bytes.nameByte Cut.before Cut.cut
+    Word.inClass Word.run Word.wordAt Word.skipped Word.nameForm Word.readType Word.readSmall Word.smallOf Word.padded
+    Word.sameBytes Word.place Word.seek Argument.emptySaid Argument.nameSaid Argument.newSaid Argument.literalSaid
+    Argument.operandSaid Argument.typeSaid Argument.numberSaid Argument.signs Argument.comparisonAt
+    Argument.comparisonSaid Argument.said Argument.textAt Argument.saidAt Refusal.numberOf Command.tagCommand
+    Command.commands Command.commandWords Command.commandAt Command.formOf Line.meaning Line.argumentsAt Line.lower
+    Line.lowest Line.judged Load.counted Load.appended Load.lineStep Load.nameRow Load.named Load.walk Load.loaded
+    Shape.inShape Check.verdict Machine.step Course.runFrom
 all = tt

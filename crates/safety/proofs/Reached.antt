@@ -8,7 +8,8 @@ use Rattle.state.specs.declared.Control.the-variants.{None as noControl, Z}
 use Rattle.state.specs.declared.Offer.{Offer}
 use Rattle.state.specs.declared.Offer.the-variants.{Nothing as nothing, Done as done}
 use Rattle.safety.specs.Safety.{Reaches}
-use Rattle.safety.specs.Texts.{unwritten, unlike, stray, deep, loose, after-loop, after-sweep, after-tag, after-if, after-copy}
+use Rattle.safety.specs.Texts.{unwritten, unlike, stray, deep, loose, after-loop, after-sweep, after-tag}
+use Rattle.safety.specs.Texts.{after-if, after-copy}
 use Rattle.safety.proofs.Opened.{all}
 
 -- n steps with no control and no offer

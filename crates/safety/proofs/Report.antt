@@ -9,7 +9,10 @@ use lib.ListN.{length, take}
 use lib.Seq.{take-take}
 use Rattle.table.specs.declared.Script.{Script}
 use Rattle.argument.specs.declared.Refusal.{Refusal}
-use Rattle.argument.specs.declared.Refusal.the-variants.{TooLong as tooLong, NoEnd as noEnd, LongLine as longLine, TooManyItems as tooManyItems, UnknownCommand as unknownCommand, BadArguments as badArguments, Undeclared as undeclared, DeclaredTwice as declaredTwice, TooManyNames as tooManyNames}
+use Rattle.argument.specs.declared.Refusal.the-variants.{TooLong as tooLong, NoEnd as noEnd, LongLine as longLine}
+use Rattle.argument.specs.declared.Refusal.the-variants.{TooManyItems as tooManyItems, UnknownCommand as unknownCommand}
+use Rattle.argument.specs.declared.Refusal.the-variants.{BadArguments as badArguments, Undeclared as undeclared}
+use Rattle.argument.specs.declared.Refusal.the-variants.{DeclaredTwice as declaredTwice, TooManyNames as tooManyNames}
 use Rattle.argument.specs.Refusal.{numberOf as formNumber}
 use Rattle.script.specs.declared.Answer.the-variants as form
 use Rattle.script.specs.declared.Loaded.{Loaded}
@@ -33,14 +36,16 @@ use Rattle.safety.specs.Safety.{allAllowed}
 use Rattle.safety.specs.Outcome.{refusal, judged, checkedOutcome, outcome, Fixed}
 use Rattle.safety.proofs.Safe.{answers-allowed}
 
-module _ (size : ℕ) (t : Script) (ps : List (Control × Offer)) (v : Judgement) (p : verdictMeaning v ≡ verdict size t) where
-  pub rules-yes : v ≡ rule.Accepted → checkedOutcome size t ps ≡ record { number = 0; line = 0; course = runFrom size t fresh ps }
-  unfolding checkedOutcome
-  rules-yes e = rw (← p, e)
+module _ (size : ℕ) (t : Script) (ps : List (Control × Offer)) (v : Judgement) (p : verdictMeaning v ≡ verdict size t)
+  where
+    pub rules-yes : v ≡ rule.Accepted
+        → checkedOutcome size t ps ≡ record { number = 0; line = 0; course = runFrom size t fresh ps }
+    unfolding checkedOutcome
+    rules-yes e = rw (← p, e)
 
-  pub rules-no : (r : Rule) (k : ℕ) → v ≡ rule.Refused r k → checkedOutcome size t ps ≡ refusal (ruleNumber r) k
-  unfolding checkedOutcome
-  rules-no r k e = rw (← p, e)
+    pub rules-no : (r : Rule) (k : ℕ) → v ≡ rule.Refused r k → checkedOutcome size t ps ≡ refusal (ruleNumber r) k
+    unfolding checkedOutcome
+    rules-no r k e = rw (← p, e)
 
 not-zero : (r : Refusal) → eqb (formNumber r) 0 ≡ false
 unfolding formNumber
@@ -65,7 +70,8 @@ module _ (text : List ℕ) (ps : List (Control × Offer)) (l : Loaded) (p : load
 
 -- ---- the promise
 
-checked-allowed : (size : ℕ) (t : Script) (ps : List (Control × Offer)) → allAllowed ((checkedOutcome size t ps) .course .answers) ≡ true
+checked-allowed : (size : ℕ) (t : Script) (ps : List (Control × Offer))
+    → allAllowed ((checkedOutcome size t ps) .course .answers) ≡ true
 unfolding checkedOutcome
 checked-allowed size t ps = go (verdict size t) refl
   where
@@ -77,17 +83,21 @@ pub promised : (text : List ℕ) (ps : List (Control × Offer)) → allAllowed (
 unfolding outcome
 promised text ps = go (eqb ((loaded text) .number) 0)
   where
-    go : (b : Bool) → allAllowed ((cond b (checkedOutcome (length text) ((loaded text) .table) ps) (refusal ((loaded text) .number) ((loaded text) .line))) .course .answers) ≡ true
+    go : (b : Bool)
+        → allAllowed ((cond b (checkedOutcome (length text) ((loaded text) .table) ps)
+        (refusal ((loaded text) .number) ((loaded text) .line))) .course .answers) ≡ true
     go true = checked-allowed (length text) ((loaded text) .table) ps
     go false = refl
 
 -- ---- the run
 
-pub from-fresh : {size : ℕ} {t : Script} {m : State} (s : Steps) {r : Ran} → runOf m ≡ fresh → ExactRun size t m (take (s .count) (stepsOf s)) r → courseOf r ≡ runFrom size t fresh (stepsOf s)
+pub from-fresh : {size : ℕ} {t : Script} {m : State} (s : Steps) {r : Ran} → runOf m ≡ fresh
+    → ExactRun size t m (take (s .count) (stepsOf s)) r → courseOf r ≡ runFrom size t fresh (stepsOf s)
 from-fresh s f e = e .comes .says ∙ rw (f, take-take (s .count) (s .count) (allTold (s .at)) (omega arith))
 
 -- a run from a neat state leaves a neat one
-pub fixed : {size : ℕ} {t : Script} {m : State} {ps : List (Control × Offer)} {r : Ran} → Neat m → ExactRun size t m ps r → Fixed r
+pub fixed : {size : ℕ} {t : Script} {m : State} {ps : List (Control × Offer)} {r : Ran} → Neat m
+    → ExactRun size t m ps r → Fixed r
 fixed {size} {t} {m} {ps} {r} n e = record {
   neat = go (allStay (runOf m .status) ((courseOf r) .answers)) refl;
   blank = e .blank;

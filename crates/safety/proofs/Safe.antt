@@ -73,7 +73,8 @@ module _ (size : ℕ) (t : Script) (ok : verdict size t ≡ accepted) where
       → allAllowed ((runFrom size t m ps) .answers) ≡ true
   unfolding runFrom
   promised-answers [] m h = refl
-  promised-answers (p ∷ ps) m h = and-t (h .0 .answer) (promised-answers ps ((step size t m (p .0) (p .1)) .next) (h .1))
+  promised-answers (p ∷ ps) m h =
+      and-t (h .0 .answer) (promised-answers ps ((step size t m (p .0) (p .1)) .next) (h .1))
 
   pub answers-allowed : (ps : List (Control × Offer)) → allAllowed ((runFrom size t fresh ps) .answers) ≡ true
   answers-allowed ps = promised-answers ps fresh (safe ps)

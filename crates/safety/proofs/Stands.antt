@@ -10,7 +10,8 @@ use lib.ListN.{length}
 use borrow.Author.Tests.{leb-false, ne-eqb, eq-eqb, lt-ltb, le-leb}
 use Rattle.table.specs.declared.Head.{Head}
 use Rattle.table.specs.declared.Item.{Item}
-use Rattle.table.specs.declared.Item.the-variants.{Act as act, Pack as pack, Open as opens, Branch as branch, Close as closes, Break as breakloop, Tag as tag}
+use Rattle.table.specs.declared.Item.the-variants.{Act as act, Pack as pack, Open as opens, Branch as branch}
+use Rattle.table.specs.declared.Item.the-variants.{Close as closes, Break as breakloop, Tag as tag}
 use Rattle.table.specs.Item.{isOpen, isLoop, opensA}
 use Rattle.table.specs.Uses.{gives, Kinds, kindAt, Names}
 use Rattle.mates.specs.declared.Open.{Open}
@@ -45,7 +46,8 @@ firstLoop (x ∷ xs) = opensA isLoop x
 abbrev pub Opened : ℕ → List Item → List ℕ → List Box → Type 0
 Opened i xs ps l = (ps ≡ positions l) ⊎ ((ps ≡ i ∷ positions l) × (firstLoop xs ≡ true))
 
-outside-eq : (i : ℕ) (xs : List Item) (ps : List ℕ) (l : List Box) → Below i l → Opened i xs ps l → outside i ps ≡ positions l
+outside-eq : (i : ℕ) (xs : List Item) (ps : List ℕ) (l : List Box) → Below i l → Opened i xs ps l
+    → outside i ps ≡ positions l
 outside-eq i xs ps [] w (inl q) = rw q
 outside-eq i xs ps (b ∷ bs) w (inl q) = rw (q, ne-eqb (b .at) i (λ e. omega (arith, w .0)))
 outside-eq i xs ps l w (inr q) = rw (q .0, eq-eqb i i refl)
@@ -83,25 +85,39 @@ module _ {names size : ℕ} {items : List Item} (ok : Accepted names size items)
 
   -- ---- a run that stands so is in shape
 
-  head-ok : {i : ℕ} {su : Names} {l : List Box} {p tg : Bool} {k : Kinds} {h : Head} {ys : List Item} → Reach items i (state su l p tg) k (opens h ∷ ys)
+  head-ok : {i : ℕ} {su : Names} {l : List Box} {p tg : Bool} {k : Kinds} {h : Head} {ys : List Item}
+      → Reach items i (state su l p tg) k (opens h ∷ ys)
       → (ltb i (length items) && isOpen (itemAt items i) && not (isNone (closeOf items i))) ≡ true
   head-ok {i} {h = h} {ys = ys} r =
       let s = static ok r in
-      rw (lt-ltb i (length items) (omega (arith, s .span)), drop-getD i items tag (opens h) ys (s .text), (close-head ok r) .is)
+      rw (
+        lt-ltb i (length items) (omega (arith, s .span)),
+        drop-getD i items tag (opens h) ys (s .text),
+        (close-head ok r) .is,
+      )
 
-  heads-ok : (i : ℕ) (st : List Open) (xs : List Item) (tg : Bool) (l : List Box) → Heads items i st xs tg l → opensOk items (positions l) ≡ true
+  heads-ok : (i : ℕ) (st : List Open) (xs : List Item) (tg : Bool) (l : List Box) → Heads items i st xs tg l
+      → opensOk items (positions l) ≡ true
   heads-ok i st xs tg [] h = refl
   heads-ok i st xs tg (b ∷ bs) h = and-t (head-ok (h .0 .reach)) (heads-ok i st xs tg bs (h .1))
 
-  opens-ok : {i : ℕ} {su : Names} {l : List Box} {p tg : Bool} {k : Kinds} (xs : List Item) (ps : List ℕ) → Reach items i (state su l p tg) k xs
+  opens-ok : {i : ℕ} {su : Names} {l : List Box} {p tg : Bool} {k : Kinds} (xs : List Item) (ps : List ℕ)
+      → Reach items i (state su l p tg) k xs
       → Opened i xs ps l → (leb (length ps) 8 ≡ true) × (opensOk items ps ≡ true)
   opens-ok {i} {l = l} {tg = tg} xs ps r (inl q) =
       let s = static ok r in
-      rw q (le-leb (length (positions l)) 8 (omega (arith, length-positions l, s .few)), heads-ok i (erase l) xs tg l (s .heads))
+      rw q (
+        le-leb (length (positions l)) 8 (omega (arith, length-positions l, s .few)),
+        heads-ok i (erase l) xs tg l (s .heads),
+      )
   opens-ok [] ps r (inr q) = no′ (q .1)
   opens-ok {i} {l = l} {tg = tg} (opens h ∷ xs) ps r (inr q) =
       let s = static ok r in
-      rw (q .0) (le-leb (suc (length (positions l))) 8 (omega (arith, length-positions l, leb-false 8 (length l) ((clean ok r) .eighth))), and-t (head-ok r) (heads-ok i (erase l) (opens h ∷ xs) tg l (s .heads)))
+      rw (q .0) (
+        le-leb (suc (length (positions l))) 8
+            (omega (arith, length-positions l, leb-false 8 (length l) ((clean ok r) .eighth))),
+        and-t (head-ok r) (heads-ok i (erase l) (opens h ∷ xs) tg l (s .heads)),
+      )
   opens-ok (act a ∷ xs) ps r (inr q) = no′ (q .1)
   opens-ok (pack a ∷ xs) ps r (inr q) = no′ (q .1)
   opens-ok (branch a ∷ xs) ps r (inr q) = no′ (q .1)
@@ -119,16 +135,20 @@ module _ {names size : ℕ} {items : List Item} (ok : Accepted names size items)
     pub good : {xs : List Item} → Here m su l p tg k xs → Good m
     good {xs} h = record {
       shape = shape-of h;
-      life = subst (λ (c : Status). Life c m) (sym (h .living)) (record { su = su; l = l; p = p; tg = tg; k = k; xs = xs; stands = h });
+      life =
+          subst (λ (c : Status). Life c m) (sym (h .living))
+          (record { su = su; l = l; p = p; tg = tg; k = k; xs = xs; stands = h });
     }
 
     -- where a step lands
     pub land : {xs : List Item} → Reach items (m .at) (state su l p tg) k xs
-        → Opened (m .at) xs (m .boxes) l → m .packed ≡ p → Covers su (m .vars) → AllCover l (m .vars) → VarsOk (textKinds items) (m .vars) → m .status ≡ live → Good m
+        → Opened (m .at) xs (m .boxes) l → m .packed ≡ p → Covers su (m .vars) → AllCover l (m .vars)
+        → VarsOk (textKinds items) (m .vars) → m .status ≡ live → Good m
     land r o q c d v a = good (record { reach = r; boxes = o; packed = q; cover = c; covers = d; vars = v; living = a })
 
     -- at an item that is no loop the open boxes are the text's
-    pub not-again : {x : Item} {xs : List Item} → Here m su l p tg k (x ∷ xs) → opensA isLoop x ≡ false → m .boxes ≡ positions l
+    pub not-again : {x : Item} {xs : List Item} → Here m su l p tg k (x ∷ xs) → opensA isLoop x ≡ false
+        → m .boxes ≡ positions l
     not-again {x} {xs} h e = go (h .boxes)
       where
         go : Opened (m .at) (x ∷ xs) (m .boxes) l → m .boxes ≡ positions l
@@ -141,12 +161,15 @@ module _ {names size : ℕ} {items : List Item} (ok : Accepted names size items)
 
   -- ---- the kinds of the whole text
 
-  kinds-up : (xs : List Item) (k : Kinds) (n : ℕ) → isKnown (kindAt k n) ≡ true → isKnown (kindAt (kindsOf k xs) n) ≡ true
+  kinds-up : (xs : List Item) (k : Kinds) (n : ℕ) → isKnown (kindAt k n) ≡ true
+      → isKnown (kindAt (kindsOf k xs) n) ≡ true
   kinds-up [] k n h = h
   kinds-up (x ∷ xs) k n h = rw (learns k x) (kinds-up xs (learn k (gives x)) n (learn-up (gives x) k n h))
 
-  sure-kinds : {i : ℕ} {s : Placed} {k : Kinds} {xs : List Item} → Reach items i s k xs → Within (s .sure) (textKinds items)
+  sure-kinds : {i : ℕ} {s : Placed} {k : Kinds} {xs : List Item} → Reach items i s k xs
+      → Within (s .sure) (textKinds items)
   sure-kinds {k = k} {xs = xs} r n h = rw (reach-kinds ok r) at (kinds-up xs k n ((static ok r) .sure-known n h))
 
-  pub knows : {m : Run} {su : Names} {l : List Box} {p tg : Bool} {k : Kinds} {xs : List Item} → Here m su l p tg k xs → Knows (textKinds items) su (m .vars)
+  pub knows : {m : Run} {su : Names} {l : List Box} {p tg : Bool} {k : Kinds} {xs : List Item} → Here m su l p tg k xs
+      → Knows (textKinds items) su (m .vars)
   knows h = record { cover = h .cover; kinds = sure-kinds (h .reach); vars = h .vars }

@@ -12,7 +12,8 @@ use Rattle.mates.specs.Mates.{scan, boxesAt}
 use Rattle.rules.proofs.Placed.{Placed, after}
 use Rattle.safety.proofs.Laws.{drop-step, not-nothing}
 use Rattle.safety.proofs.Walk.{Accepted, Reach, outset, more, clean, item-ok}
-use Rattle.safety.proofs.Boxes.{erase, Below, Heads, boxes-next, erase-after, below-after, few-after, heads-after}
+use Rattle.safety.proofs.Boxes.{erase, Below, Heads, boxes-next, erase-after, below-after, few-after}
+use Rattle.safety.proofs.Boxes.{heads-after}
 use Rattle.safety.proofs.Sure.{Within, AllWithin, learn-length, sure-after, known-after}
 
 pub record Static (items : List Item) (i : ℕ) (s : Placed) (k : Kinds) (xs : List Item) : Type 0 where
@@ -49,8 +50,13 @@ module _ {names size : ℕ} {items : List Item} (ok : Accepted names size items)
         scanned = boxes-next items i x xs (q .text) ∙ ap (scan i x) (q .scanned) ∙ e;
         below = below-after i (s .sure) (s .packed) (s .tagged) (s .boxes) x (q .below);
         few = few-after i (s .sure) (s .packed) (s .tagged) (s .boxes) x (c .eighth) (q .few);
-        heads = subst (λ (st : List Open). Heads items (suc i) st xs ((after i s x) .tagged) ((after i s x) .boxes)) e (heads-after items x (s .boxes) r c (q .text) (q .scanned) (q .below) (q .heads));
-        sure-known = sure-after ok i (s .sure) (s .packed) (s .tagged) k (s .boxes) x (item-ok ok r) (c .there) (q .klen) (q .sure-known) (q .boxes-known);
-        boxes-known = known-after ok i (s .sure) (s .packed) (s .tagged) k (s .boxes) x (q .sure-known) (q .boxes-known);
+        heads =
+            subst (λ (st : List Open). Heads items (suc i) st xs ((after i s x) .tagged) ((after i s x) .boxes)) e
+            (heads-after items x (s .boxes) r c (q .text) (q .scanned) (q .below) (q .heads));
+        sure-known =
+            sure-after ok i (s .sure) (s .packed) (s .tagged) k (s .boxes) x (item-ok ok r) (c .there) (q .klen)
+            (q .sure-known) (q .boxes-known);
+        boxes-known =
+            known-after ok i (s .sure) (s .packed) (s .tagged) k (s .boxes) x (q .sure-known) (q .boxes-known);
         klen = learn-length (gives x) k ∙ q .klen;
       }

@@ -9,7 +9,8 @@ use native.Mathlib.Omega.{arith}
 use lib.ListN.{length, drop}
 use borrow.Author.Tests.{le-leb}
 use Rattle.table.specs.declared.Item.{Item}
-use Rattle.table.specs.declared.Item.the-variants.{Act as act, Pack as pack, Open as opens, Branch as branch, Close as closes, Break as breakloop, Tag as tag}
+use Rattle.table.specs.declared.Item.the-variants.{Act as act, Pack as pack, Open as opens, Branch as branch}
+use Rattle.table.specs.declared.Item.the-variants.{Close as closes, Break as breakloop, Tag as tag}
 use Rattle.table.specs.Item.{isSweep}
 use Rattle.table.specs.Uses.{Kinds, Names, lowest}
 use Rattle.rules.specs.Check.{isEmpty}
@@ -17,9 +18,11 @@ use Rattle.rules.proofs.Placed.{Box, Placed, plains}
 use Rattle.state.specs.declared.Control.{Control}
 use Rattle.state.specs.declared.Control.the-variants.{None as noControl, Z, Y}
 use Rattle.state.specs.declared.Offer.{Offer}
-use Rattle.state.specs.declared.Offer.the-variants.{Nothing as nothing, Float as oneFloat, Point as onePoint, Done as done}
+use Rattle.state.specs.declared.Offer.the-variants.{Nothing as nothing, Float as oneFloat, Point as onePoint}
+use Rattle.state.specs.declared.Offer.the-variants.{Done as done}
 use Rattle.state.specs.State.{Run, Out, Step, said, Meets, ready, short, amiss, wantsNothing, wantedBy, meets, cleared}
-use Rattle.machine.specs.Machine.{isEmpty as noneOpen, anyOpen, leaveOuts, isNone, next, run, served, finish, atItem, told, tagFrom, ahead, abortDue, aborted, moved, runOk}
+use Rattle.machine.specs.Machine.{isEmpty as noneOpen, anyOpen, leaveOuts, isNone, next, run, served, finish, atItem}
+use Rattle.machine.specs.Machine.{told, tagFrom, ahead, abortDue, aborted, moved, runOk}
 use Rattle.safety.specs.Safety.{wantedFrom, wantedAt, isAmiss}
 use Rattle.machine.proofs.Stepping.{ahead-is}
 use Rattle.safety.proofs.Laws.{no, no′, or-r, and-r, not-t, not-nothing}
@@ -43,7 +46,8 @@ quiet-short (onePoint p) = refl
 quiet-short done = refl
 
 module _ {names size : ℕ} {items : List Item} (ok : Accepted names size items) where
-  -- a step of a run m that lives: made where the offer is what is wanted; m₁ is the run with the control, which a wait keeps
+  -- a step of a run m that lives: made where the offer is what is wanted; m₁ is the run with the control, which a wait
+  -- keeps
   pub record Comes (m : Run) (wr : Bool) (s : Step) : Type 0 where
     pub met : Meets
     pub m₁ : Run
@@ -53,10 +57,21 @@ module _ {names size : ℕ} {items : List Item} (ok : Accepted names size items)
     pub waits : isShort met ≡ true → Good ok m₁
     pub fine : FineStep ok made
 
-  quiet-comes : (m m₁ : Run) (o : Offer) (s : Step) → FineStep ok s → Comes m (isAmiss (meets wantsNothing o)) (served m m₁ (meets wantsNothing o) s)
-  quiet-comes m m₁ o s f = record { met = meets wantsNothing o; m₁ = m₁; made = s; is = refl; amiss-is = refl; waits = λ e. no′ (sym (quiet-short o) ∙ e); fine = f }
+  quiet-comes : (m m₁ : Run) (o : Offer) (s : Step) → FineStep ok s
+      → Comes m (isAmiss (meets wantsNothing o)) (served m m₁ (meets wantsNothing o) s)
+  quiet-comes m m₁ o s f =
+      record {
+        met = meets wantsNothing o;
+        m₁ = m₁;
+        made = s;
+        is = refl;
+        amiss-is = refl;
+        waits = λ e. no′ (sym (quiet-short o) ∙ e);
+        fine = f;
+      }
 
-  finish-comes : (m₀ m : Run) (o : Offer) (os : List Out) → runOk items m ≡ true → Comes m₀ (isAmiss (meets wantsNothing o)) (finish m₀ m o os)
+  finish-comes : (m₀ m : Run) (o : Offer) (os : List Out) → runOk items m ≡ true
+      → Comes m₀ (isAmiss (meets wantsNothing o)) (finish m₀ m o os)
   finish-comes m₀ m o os g = quiet-comes m₀ m o _ (record { shape = g; life = tt })
 
   -- ---- an abort: to the tag, or to the end
@@ -68,7 +83,8 @@ module _ {names size : ℕ} {items : List Item} (ok : Accepted names size items)
     ys : List Item
     reach : Reach items i s k (tag ∷ ys)
 
-  find-tag : (xs : List Item) (j : ℕ) {s : Placed} {k : Kinds} (i : ℕ) → Reach items j s k xs → tagFrom j xs ≡ some i → Tagged i
+  find-tag : (xs : List Item) (j : ℕ) {s : Placed} {k : Kinds} (i : ℕ) → Reach items j s k xs → tagFrom j xs ≡ some i
+      → Tagged i
   find-tag [] j i r e = no (ap isNone e)
   find-tag (tag ∷ xs) j {s} {k} i r e =
       let q : j ≡ i = cc in
@@ -95,9 +111,11 @@ module _ {names size : ℕ} {items : List Item} (ok : Accepted names size items)
         go (b ∷ bs) (inl q) e = no′ e
         go l (inr q) e = no′ (q .1)
 
-    item-comes : (xs : List Item) → Here ok m su l p tg k xs → Comes m₀ (isAmiss (meets (wantedFrom xs) o)) (atItem items m₀ m o xs)
+    item-comes : (xs : List Item) → Here ok m su l p tg k xs
+        → Comes m₀ (isAmiss (meets (wantedFrom xs) o)) (atItem items m₀ m o xs)
     item-comes [] h =
-        let z : lowest ((62, not (noneOpen (m .boxes))) ∷ (64, m .packed) ∷ []) ≡ 0 = rw (end-boxes h, h .packed, (ends ok (h .reach)) .1) in
+        let z : lowest ((62, not (noneOpen (m .boxes))) ∷ (64, m .packed) ∷ []) ≡ 0 =
+        rw (end-boxes h, h .packed, (ends ok (h .reach)) .1) in
         rw z (finish-comes m₀ m o [] (shape-of ok h))
     item-comes (x ∷ xs) h =
         rw (no-fault ok h, no-try ok x h) (record {
@@ -122,10 +140,14 @@ module _ {names size : ℕ} {items : List Item} (ok : Accepted names size items)
       to-tag i = served m₀ (cleared m i) (meets wantsNothing o) (said (leaveOuts items (m .boxes)) (next (cleared m i)))
 
       ending : Comes m₀ (isAmiss (meets wantsNothing o)) to-end
-      ending = finish-comes m₀ (cleared m (m .at)) o (leaveOuts items (m .boxes)) (cleared-ok (m .at) (omega (arith, (static ok (h .reach)) .span)))
+      ending =
+          finish-comes m₀ (cleared m (m .at)) o (leaveOuts items (m .boxes))
+          (cleared-ok (m .at) (omega (arith, (static ok (h .reach)) .span)))
 
       tag-comes : {i : ℕ} → m .packed ≡ false → Tagged i → Comes m₀ (isAmiss (meets wantsNothing o)) (to-tag i)
-      tag-comes {i} q g = quiet-comes m₀ (cleared m i) o _ (land ok (more at-tag) (inl refl) q (λ n e. not-nothing n e) tt (h .vars) (h .living))
+      tag-comes {i} q g =
+          quiet-comes m₀ (cleared m i) o _
+          (land ok (more at-tag) (inl refl) q (λ n e. not-nothing n e) tt (h .vars) (h .living))
         where
           boxes : g .s .boxes ≡ []
           boxes = none-open (g .s .tagged) (g .s .boxes) ((clean ok (g .reach)) .tagged)
@@ -133,7 +155,8 @@ module _ {names size : ℕ} {items : List Item} (ok : Accepted names size items)
           at-tag : Reach items i (state (g .s .sure) [] false (g .s .tagged)) (g .k) (tag ∷ g .ys)
           at-tag = rw (boxes, (clean ok (g .reach)) .packed) at (g .reach)
 
-      abort-comes : (f : Option ℕ) → ahead (m .at) (tagFrom 0 items) ≡ f → m .packed ≡ false → Comes m₀ (isAmiss (meets wantsNothing o)) (aborted items m₀ m o f)
+      abort-comes : (f : Option ℕ) → ahead (m .at) (tagFrom 0 items) ≡ f → m .packed ≡ false
+          → Comes m₀ (isAmiss (meets wantsNothing o)) (aborted items m₀ m o f)
       abort-comes none e q = ending
       abort-comes (some i) e q = tag-comes q (find-tag items 0 i outset (ahead-is (m .at) (tagFrom 0 items) i e))
 
@@ -141,12 +164,35 @@ module _ {names size : ℕ} {items : List Item} (ok : Accepted names size items)
       moved-comes = go (abortDue items m) refl
         where
           go : (b : Bool) → abortDue items m ≡ b
-              → Comes m₀ (isAmiss (meets (cond b wantsNothing (wantedFrom (drop (m .at) items))) o)) (cond b (aborted items m₀ m o (ahead (m .at) (tagFrom 0 items))) (atItem items m₀ m o (drop (m .at) items)))
-          go true e = abort-comes (ahead (m .at) (tagFrom 0 items)) refl (not-t (m .packed) (and-r (m .pending && not (anyOpen isSweep items (m .boxes))) (not (m .packed)) e))
+              → Comes m₀ (isAmiss (meets (cond b wantsNothing (wantedFrom (drop (m .at) items))) o))
+              (cond b (aborted items m₀ m o (ahead (m .at) (tagFrom 0 items)))
+              (atItem items m₀ m o (drop (m .at) items)))
+          go true e =
+              abort-comes (ahead (m .at) (tagFrom 0 items)) refl
+              (not-t (m .packed) (and-r (m .pending && not (anyOpen isSweep items (m .boxes))) (not (m .packed)) e))
           go false e = rw ((static ok (h .reach)) .text) (item-comes xs h)
 
   -- the control moves nothing
-  pub told-here : {m : Run} (c : Control) {su : Names} {l : List Box} {p tg : Bool} {k : Kinds} {xs : List Item} → Here ok m su l p tg k xs → Here ok (told items m c) su l p tg k xs
+  pub told-here : {m : Run} (c : Control) {su : Names} {l : List Box} {p tg : Bool} {k : Kinds} {xs : List Item}
+      → Here ok m su l p tg k xs → Here ok (told items m c) su l p tg k xs
   told-here noControl h = h
-  told-here Z h = record { reach = h .reach; boxes = h .boxes; packed = h .packed; cover = h .cover; covers = h .covers; vars = h .vars; living = h .living }
-  told-here Y h = record { reach = h .reach; boxes = h .boxes; packed = h .packed; cover = h .cover; covers = h .covers; vars = h .vars; living = h .living }
+  told-here Z h =
+      record {
+        reach = h .reach;
+        boxes = h .boxes;
+        packed = h .packed;
+        cover = h .cover;
+        covers = h .covers;
+        vars = h .vars;
+        living = h .living;
+      }
+  told-here Y h =
+      record {
+        reach = h .reach;
+        boxes = h .boxes;
+        packed = h .packed;
+        cover = h .cover;
+        covers = h .covers;
+        vars = h .vars;
+        living = h .living;
+      }

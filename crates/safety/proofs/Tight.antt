@@ -5,7 +5,8 @@ use mathlib.Core.Bool.{cond}
 use mathlib.Core.List.{List}
 use lib.Dec.{eqb, ltb}
 use Rattle.argument.specs.declared.Refusal.{Refusal}
-use Rattle.argument.specs.declared.Refusal.the-variants.{TooLong, NoEnd, LongLine, TooManyItems, UnknownCommand, BadArguments, Undeclared, DeclaredTwice, TooManyNames}
+use Rattle.argument.specs.declared.Refusal.the-variants.{TooLong, NoEnd, LongLine, TooManyItems, UnknownCommand}
+use Rattle.argument.specs.declared.Refusal.the-variants.{BadArguments, Undeclared, DeclaredTwice, TooManyNames}
 use Rattle.argument.specs.Refusal.{numberOf as formNumber}
 use Rattle.rules.specs.declared.Rule.{Rule}
 use Rattle.rules.specs.declared.Rule.the-variants.{Kinds, Unwritten, Mark, Ninth, Package, Tag, SameName, Nested, Shape}
@@ -82,9 +83,13 @@ pub only-run : (text : List ℕ) (steps : Steps) (x y : Checked) → SizedRun (x
     → ExactOutcome text (stepsOf steps) x → ExactOutcome text (stepsOf steps) y → x ≡ y
 only-run text steps x y l k p q =
     let same : meaning x ≡ meaning y = p .says ∙ sym (q .says) in
-    let j : x .judged ≡ y .judged = sym (judged-back (x .judged)) ∙ ap (λ (o : Outcome). judgedOf (o .number) (o .line)) same ∙ judged-back (y .judged) in
+    let j : x .judged ≡ y .judged =
+    sym (judged-back (x .judged)) ∙ ap (λ (o : Outcome). judgedOf (o .number) (o .line)) same
+    ∙ judged-back (y .judged) in
     let c : courseOf (x .ran) ≡ courseOf (y .ran) = ap (λ (o : Outcome). o .course) same in
-    let m : x .ran .state ≡ y .ran .state = same-state (x .ran .state) (y .ran .state) (l .boxes) (k .boxes) (ap (λ (z : Course). z .last) c) (p .fixed .neat) (q .fixed .neat) in
+    let m : x .ran .state ≡ y .ran .state =
+    same-state (x .ran .state) (y .ran .state) (l .boxes) (k .boxes) (ap (λ (z : Course). z .last) c)
+    (p .fixed .neat) (q .fixed .neat) in
     let r : x .ran ≡ y .ran = same-ran (x .ran) (y .ran) l k c (p .fixed .blank) (q .fixed .blank) m in
     let w : checkedFrom (x .judged) (x .ran) ≡ checkedFrom (y .judged) (y .ran) = cc in
     sym (checked-from x) ∙ w ∙ checked-from y

@@ -18,7 +18,8 @@ use Rattle.table.specs.declared.Give.the-variants.{Like as like, Float as float
 use Rattle.table.specs.Item.{isOpen, isTag, fits}
 use Rattle.table.specs.Uses.{uses, gives, Kinds, kindAt, wrong, wrongGive, Names, has, missing, breaksOrder, lowest}
 use Rattle.table.specs.Shape.{operandOk, wantsOk, givesOk, ownOk, itemOk, itemsOk}
-use Rattle.rules.specs.Check.{learn, kindsOf, State, begin, isEmpty, base, misplaced, refusals, refusalsAtEnd, Verdict, accepted, orGo, walk}
+use Rattle.rules.specs.Check.{learn, kindsOf, State, begin, isEmpty, base, misplaced, refusals, refusalsAtEnd, Verdict}
+use Rattle.rules.specs.Check.{accepted, orGo, walk}
 use Rattle.rules.proofs.Placed.{Box, Placed, atStart, plains, bare, length-plains, after, same-walk}
 use Rattle.rules.proofs.Writes.{learns}
 use Rattle.safety.proofs.Laws.{or-l, or-r, and-l, and-r, not-f, skip}
@@ -40,7 +41,8 @@ state su l p tg = record { sure = su; boxes = l; packed = p; tagged = tg }
 -- s is the state before item i, k the kinds from the items before it, xs the items from there on
 pub data Reach (items : List Item) : ℕ → Placed → Kinds → List Item → Type 0 where
   outset : Reach items 0 atStart (replicate 32 unknown) items
-  more : {i : ℕ} {s : Placed} {k : Kinds} {x : Item} {xs : List Item} → Reach items i s k (x ∷ xs) → Reach items (suc i) (after i s x) (learn k (gives x)) xs
+  more : {i : ℕ} {s : Placed} {k : Kinds} {x : Item} {xs : List Item} → Reach items i s k (x ∷ xs)
+      → Reach items (suc i) (after i s x) (learn k (gives x)) xs
 
 -- ---- an accepted item passes every test
 
@@ -76,25 +78,35 @@ orGo-accepted zero i v e = (refl, e)
 orGo-accepted (suc n) i v e = (cc, cc)
 
 -- a closing or branch mark that is placed is of its box's sort
-pub closes-fits : (e : Close) (b : Box) (bs : List Box) → misplaced (closes e) (plains (b ∷ bs)) ≡ false → fits (closes e) (b .sort) ≡ true
-closes-fits e b bs h = not-f _ (or-l (not (fits (closes e) (b .sort))) false (or-l (not (fits (closes e) (b .sort)) || false) false h))
+pub closes-fits : (e : Close) (b : Box) (bs : List Box) → misplaced (closes e) (plains (b ∷ bs)) ≡ false
+    → fits (closes e) (b .sort) ≡ true
+closes-fits e b bs h =
+    not-f _ (or-l (not (fits (closes e) (b .sort))) false (or-l (not (fits (closes e) (b .sort)) || false) false h))
 
-pub branch-fits : (c : Branch) (b : Box) (bs : List Box) → misplaced (branch c) (plains (b ∷ bs)) ≡ false → fits (branch c) (b .sort) ≡ true
-branch-fits c b bs h = not-f _ (or-l (not (fits (branch c) (b .sort))) (b .elseSeen) (or-l (not (fits (branch c) (b .sort)) || b .elseSeen) false h))
+pub branch-fits : (c : Branch) (b : Box) (bs : List Box) → misplaced (branch c) (plains (b ∷ bs)) ≡ false
+    → fits (branch c) (b .sort) ≡ true
+branch-fits c b bs h =
+    not-f _ (or-l (not (fits (branch c) (b .sort))) (b .elseSeen)
+    (or-l (not (fits (branch c) (b .sort)) || b .elseSeen) false h))
 
 -- ---- of an accepted script
 
 module _ {names size : ℕ} {items : List Item} (ok : Accepted names size items) where
-  reach-walk : {i : ℕ} {s : Placed} {k : Kinds} {xs : List Item} → Reach items i s k xs → walk (textKinds items) i (bare s) xs ≡ accepted
+  reach-walk : {i : ℕ} {s : Placed} {k : Kinds} {xs : List Item} → Reach items i s k xs
+      → walk (textKinds items) i (bare s) xs ≡ accepted
   reach-walk outset = ok .passed
   reach-walk (more {i} {s} {k} {x} {xs} r) =
       ap (λ (z : State). walk (textKinds items) (suc i) z xs) (same-walk i s x)
       ∙ (orGo-accepted (lowest (refusals (textKinds items) (bare s) x)) i _ (reach-walk r)) .1
 
-  pub clean : {i : ℕ} {s : Placed} {k : Kinds} {x : Item} {xs : List Item} → Reach items i s k (x ∷ xs) → Clean (textKinds items) s x
-  clean {i} {s} {k} {x} {xs} r = is-clean (textKinds items) s x ((orGo-accepted (lowest (refusals (textKinds items) (bare s) x)) i _ (reach-walk r)) .0)
+  pub clean : {i : ℕ} {s : Placed} {k : Kinds} {x : Item} {xs : List Item} → Reach items i s k (x ∷ xs)
+      → Clean (textKinds items) s x
+  clean {i} {s} {k} {x} {xs} r =
+      is-clean (textKinds items) s x
+      ((orGo-accepted (lowest (refusals (textKinds items) (bare s) x)) i _ (reach-walk r)) .0)
 
-  pub reach-kinds : {i : ℕ} {s : Placed} {k : Kinds} {xs : List Item} → Reach items i s k xs → kindsOf k xs ≡ textKinds items
+  pub reach-kinds : {i : ℕ} {s : Placed} {k : Kinds} {xs : List Item} → Reach items i s k xs
+      → kindsOf k xs ≡ textKinds items
   reach-kinds outset = refl
   reach-kinds (more {k = k} {x = x} {xs = xs} r) = ap (λ (q : Kinds). kindsOf q xs) (sym (learns k x)) ∙ reach-kinds r
 
@@ -102,10 +114,12 @@ module _ {names size : ℕ} {items : List Item} (ok : Accepted names size items)
   reach-ok outset = ok .shaped
   reach-ok (more {x = x} {xs = xs} r) = and-r (itemOk names size x) (itemsOk names size xs) (reach-ok r)
 
-  pub item-ok : {i : ℕ} {s : Placed} {k : Kinds} {x : Item} {xs : List Item} → Reach items i s k (x ∷ xs) → itemOk names size x ≡ true
+  pub item-ok : {i : ℕ} {s : Placed} {k : Kinds} {x : Item} {xs : List Item} → Reach items i s k (x ∷ xs)
+      → itemOk names size x ≡ true
   item-ok {x = x} {xs = xs} r = and-l (itemOk names size x) (itemsOk names size xs) (reach-ok r)
 
-  pub ends : {i : ℕ} {s : Placed} {k : Kinds} → Reach items i s k [] → (isEmpty (plains (s .boxes)) ≡ true) × (s .packed ≡ false)
+  pub ends : {i : ℕ} {s : Placed} {k : Kinds} → Reach items i s k []
+      → (isEmpty (plains (s .boxes)) ≡ true) × (s .packed ≡ false)
   ends {i} {s} {k} r =
       let a = skip 20 _ _ ((orGo-accepted (lowest (refusalsAtEnd (bare s))) i _ (reach-walk r)) .0) in
       let b = skip 22 _ _ (a .1) in

@@ -1,4 +1,5 @@
--- What a caller is told: the refusal of a text, or what a run of it from fresh comes to, a control and an offer for each step.
+-- What a caller is told: the refusal of a text, or what a run of it from fresh comes to, a control and an offer for
+-- each step.
 use Prim.Native.Nat.{ℕ}
 use mathlib.Core.Path.{_≡_}
 use mathlib.Core.Bool.{true, cond}

@@ -1,5 +1,7 @@
--- Demand 3: any accepted script, started fresh, with any list of offers and any placing of abort and skip. Until it ends, an offer of the wrong
--- sort is refused by 31 and changes nothing. After every step it is running, waiting, finished, or stopped by 0028 or 0010. It never gets 30 and
+-- Demand 3: any accepted script, started fresh, with any list of offers and any placing of abort and skip. Until it
+-- ends, an offer of the wrong
+-- sort is refused by 31 and changes nothing. After every step it is running, waiting, finished, or stopped by 0028 or
+-- 0010. It never gets 30 and
 -- never reaches one of the faults 60 to 64.
 use Prim.Native.Nat.{ℕ}
 use mathlib.Core.Path.{_≡_}
@@ -14,7 +16,9 @@ use Rattle.script.specs.Load.{loaded}
 use Rattle.rules.specs.Check.{accepted, refused, verdict}
 use Rattle.state.specs.declared.Control.{Control}
 use Rattle.state.specs.declared.Offer.{Offer}
-use Rattle.state.specs.State.{Status, live, finishedRun, stoppedRun, faultRun, code0028, code0010, Run, Answer, running, waiting, finished, stopped, fault, refuse, Step, fresh, Wanted, wantsNothing, wantedBy, Meets, ready, short, amiss, meets}
+use Rattle.state.specs.State.{Status, live, finishedRun, stoppedRun, faultRun, code0028, code0010, Run, Answer, running}
+use Rattle.state.specs.State.{waiting, finished, stopped, fault, refuse, Step, fresh, Wanted, wantsNothing, wantedBy}
+use Rattle.state.specs.State.{Meets, ready, short, amiss, meets}
 use Rattle.machine.specs.Machine.{abortDue, told, step}
 use Rattle.machine.specs.Course.{runFrom}
 
@@ -65,14 +69,17 @@ pub record Promise (items : List Item) (m : Run) (c : Control) (o : Offer) (s : 
   pub answer : allowed (s .answer) ≡ true
   pub state : unbroken (s .next .status) ≡ true
   -- until the run ends, an offer of the wrong sort is refused by 31, hands out nothing and changes nothing
-  pub wrong-sort : m .status ≡ live → wrongSort items m c o ≡ true → s ≡ record { answer = refuse 31 0; outs = []; next = m }
+  pub wrong-sort : m .status ≡ live → wrongSort items m c o ≡ true
+      → s ≡ record { answer = refuse 31 0; outs = []; next = m }
   -- and 31 comes of nothing else
   pub only-wrong : s .answer ≡ refuse 31 0 → (m .status ≡ live) × (wrongSort items m c o ≡ true)
 
--- of every step of a run, one for each control and offer: the length of the script's bytes, the table, and the run so far
+-- of every step of a run, one for each control and offer: the length of the script's bytes, the table, and the run so
+-- far
 abbrev pub Promises : ℕ → Script → Run → List (Control × Offer) → Type 0
 Promises size t m [] = Unit {0}
-Promises size t m (p ∷ ps) = let s = step size t m (p .0) (p .1) in Promise (itemsOf t) m (p .0) (p .1) s × Promises size t (s .next) ps
+Promises size t m (p ∷ ps) = let s =
+    step size t m (p .0) (p .1) in Promise (itemsOf t) m (p .0) (p .1) s × Promises size t (s .next) ps
 
 -- demand 3 of a table, from fresh
 abbrev pub Safe : ℕ → Script → Type 0
@@ -80,7 +87,8 @@ Safe size t = (ps : List (Control × Offer)) → Promises size t fresh ps
 
 -- and of a script's bytes: taken by the loader, accepted by the checker
 abbrev pub SafeText : List ℕ → Type 0
-SafeText text = (loaded text) .number ≡ 0 → verdict (length text) ((loaded text) .table) ≡ accepted → Safe (length text) ((loaded text) .table)
+SafeText text = (loaded text) .number ≡ 0 → verdict (length text) ((loaded text) .table) ≡ accepted
+    → Safe (length text) ((loaded text) .table)
 
 -- started fresh, after any steps ps, stepping on with qs keeps it too: a run may be taken in as many parts as one likes
 abbrev pub SafeOnward : ℕ → Script → Type 0
@@ -99,8 +107,10 @@ allAllowed (a ∷ l) = allowed a && allAllowed l
 
 -- ---- the faults are there to be reached
 
--- the text passes form, breaks a rule at a line, and its run from fresh, told and offered so, comes to the fault in the last of its steps
+-- the text passes form, breaks a rule at a line, and its run from fresh, told and offered so, comes to the fault in the
+-- last of its steps
 pub record Reaches (text : List ℕ) (rule place before : ℕ) (ps : List (Control × Offer)) (number : ℕ) : Type 0 where
   pub formed : (loaded text) .number ≡ 0
   pub breaks : verdict (length text) ((loaded text) .table) ≡ refused rule place
-  pub comes : (runFrom (length text) ((loaded text) .table) fresh ps) .answers ≡ replicate before running ++ (fault number ∷ [])
+  pub comes : (runFrom (length text) ((loaded text) .table) fresh ps) .answers ≡ replicate before running
+      ++ (fault number ∷ [])

@@ -53,11 +53,13 @@ loose = line "pck_end" ++ line ""
 
 -- a loop keeps what its body wrote
 abbrev pub after-loop : List ℕ
-after-loop = line "var a" ++ line "loop 1i == 2i" ++ line "store_var a 1 ja" ++ line "endloop" ++ line "wait a" ++ line ""
+after-loop =
+    line "var a" ++ line "loop 1i == 2i" ++ line "store_var a 1 ja" ++ line "endloop" ++ line "wait a" ++ line ""
 
 -- so does a sweep that may be empty
 abbrev pub after-sweep : List ℕ
-after-sweep = line "var p" ++ line "var c" ++ line "meas_loop_lsv p c 0 1 1 1" ++ line "endloop" ++ line "wait p" ++ line ""
+after-sweep =
+    line "var p" ++ line "var c" ++ line "meas_loop_lsv p c 0 1 1 1" ++ line "endloop" ++ line "wait p" ++ line ""
 
 -- the tag carries names over
 abbrev pub after-tag : List ℕ
@@ -69,7 +71,9 @@ after-if = line "var a" ++ line "if 1i == 2i" ++ line "store_var a 1 ja" ++ line
 
 -- kinds are not compared for copies
 abbrev pub after-copy : List ℕ
-after-copy = line "var a" ++ line "var b" ++ line "store_var a 1i ja" ++ line "store_var b 1 ja" ++ line "copy_var a b" ++ line "wait b" ++ line ""
+after-copy =
+    line "var a" ++ line "var b" ++ line "store_var a 1i ja" ++ line "store_var b 1 ja" ++ line "copy_var a b"
+    ++ line "wait b" ++ line ""
 
 -- ---- a text with every command, every box and the tag
 

@@ -1,4 +1,5 @@
-// Demand 3 for a caller: a script's text is loaded, checked and run from fresh, and the answers are never 30 and never a fault.
+// Demand 3 for a caller: a script's text is loaded, checked and run from fresh, and the answers are never 30 and never
+// a fault.
 use argument::Refusal;
 use machine::Ran;
 use machine::Said;
@@ -59,7 +60,8 @@ fn refused(judged: Judged) -> Checked
 }
 
 fn check_and_run(text: &[u8], script: Script, steps: Steps) -> Checked
-    ensures { λ r. ⌜ (meaning r ≡ checkedOutcome (length (now (text .entry))) script (stepsOf steps)) × Fixed (r .ran) ⌝ }
+    ensures { λ r. ⌜ (meaning r ≡ checkedOutcome (length (now (text .entry))) script (stepsOf steps))
+        × Fixed (r .ran) ⌝ }
 {
     let verdict = rules::check(text, script);
     match verdict {

@@ -32,14 +32,20 @@ refused-requires c κs = search needs
 returns : tie.Need-returns
 returns c =
     let a = c .before .before .before .before .before .before .args in (
-      ap (λ (x : Course). ran x) (from-fresh (a .steps) (c .before .fresh .ensures .says) (c .run .ensures)) ∙ sym (rules-yes (length (a .text .now)) (a .script) (stepsOf (a .steps)) (c .before .before .before .before .check .result) (c .before .before .before .before .check .ensures) (c .before .before .enum-told .given .1)),
+      ap (λ (x : Course). ran x) (from-fresh (a .steps) (c .before .fresh .ensures .says) (c .run .ensures))
+          ∙ sym (rules-yes (length (a .text .now)) (a .script) (stepsOf (a .steps))
+          (c .before .before .before .before .check .result) (c .before .before .before .before .check .ensures)
+          (c .before .before .enum-told .given .1)),
       fixed (c .before .fresh .ensures .neat) (c .run .ensures),
     )
 
 returns-2 : tie.Need-returns-2
 returns-2 c =
     let a = c .before .before .before .before .before .before .args in (
-      c .refused .ensures .0 ∙ sym (rules-no (length (a .text .now)) (a .script) (stepsOf (a .steps)) (c .before .before .before .before .check .result) (c .before .before .before .before .check .ensures) _ _ (c .before .before .verdict .given .1)),
+      c .refused .ensures .0
+          ∙ sym (rules-no (length (a .text .now)) (a .script) (stepsOf (a .steps))
+          (c .before .before .before .before .check .result) (c .before .before .before .before .check .ensures) _ _
+          (c .before .before .verdict .given .1)),
       c .refused .ensures .1,
     )
 

@@ -15,7 +15,13 @@ fresh-requires : tie.Need-fresh-requires
 fresh-requires c κs = search needs
 
 returns : tie.Need-returns
-returns c = (ap (λ (m : Run). still m) (c .fresh .ensures .says), record { neat = c .fresh .ensures .neat; blank = record { few = zero-le; answers = refl; few-things = zero-le; things = refl } })
+returns c = (
+  ap (λ (m : Run). still m) (c .fresh .ensures .says),
+  record {
+    neat = c .fresh .ensures .neat;
+    blank = record { few = zero-le; answers = refl; few-things = zero-le; things = refl };
+  },
+)
 
 pub not-run-spec : {M : Type 1} → statement M
 not-run-spec = tie.close (tie.spec fresh-requires returns)

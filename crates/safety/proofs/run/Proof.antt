@@ -1,4 +1,5 @@
--- `safety::run` meets its contract: what the loader says, and then what the checker and the run come to, with the promise of demand 3.
+-- `safety::run` meets its contract: what the loader says, and then what the checker and the run come to, with the
+-- promise of demand 3.
 use mathlib.Core.Path.{sym, ap, _∙_}
 use borrow.Author.Needs.{needs}
 use Rattle.machine.specs.Course.{stepsOf}
@@ -26,7 +27,10 @@ refused-requires c κs = search needs
 returns : tie.Need-returns
 returns c =
     let a = c .before .before .before .before .before .before .args in
-    let said = c .check-and-run .ensures .0 ∙ sym (form-yes (a .text .now) (stepsOf (a .steps)) (c .before .before .before .before .load .result) (c .before .before .before .before .load .ensures) (c .before .before .enum-told .given .1)) in
+    let said =
+    c .check-and-run .ensures .0
+    ∙ sym (form-yes (a .text .now) (stepsOf (a .steps)) (c .before .before .before .before .load .result)
+    (c .before .before .before .before .load .ensures) (c .before .before .enum-told .given .1)) in
     record {
       says = said;
       allowed = ap (λ (o : Outcome). allAllowed (o .course .answers)) said
@@ -37,7 +41,10 @@ returns c =
 returns-2 : tie.Need-returns-2
 returns-2 c =
     let a = c .before .before .before .before .before .before .args in
-    let said = c .refused .ensures .0 ∙ sym (form-no (a .text .now) (stepsOf (a .steps)) (c .before .before .before .before .load .result) (c .before .before .before .before .load .ensures) _ _ (c .before .before .answer .given .1)) in
+    let said =
+    c .refused .ensures .0
+    ∙ sym (form-no (a .text .now) (stepsOf (a .steps)) (c .before .before .before .before .load .result)
+    (c .before .before .before .before .load .ensures) _ _ (c .before .before .answer .given .1)) in
     record {
       says = said;
       allowed = ap (λ (o : Outcome). allAllowed (o .course .answers)) said
