@@ -13,6 +13,7 @@ use Rattle.table.specs.Shape.{itemOk}
 use Rattle.word.specs.declared.Found.{Found}
 use Rattle.word.specs.declared.Found.the-variants as At
 use Rattle.word.specs.Word.{wordAt, part, padded, seek}
+use Rattle.argument.specs.declared.Form.{Form}
 use Rattle.argument.specs.Holds.{nameOf, wrongOf}
 use Rattle.argument.specs.Argument.{saidAt}
 use Rattle.line.specs.declared.Arguments.{Arguments}
@@ -85,7 +86,8 @@ second M.Break = false
 second M.Tag = false
 
 made : (m : Make) (x : Arguments) (n size : ℕ)
-    → Fit n size (x .a) → Fit n size (x .b) → Fit n size (x .c) → Fit n size (x .d) → Fit n size (x .e) → Fit n size (x .f)
+    → Fit n size (x .a) → Fit n size (x .b) → Fit n size (x .c)
+    → Fit n size (x .d) → Fit n size (x .e) → Fit n size (x .f)
     → (first m ≡ true → ltb (nameOf (x .a)) n ≡ true) → (second m ≡ true → ltb (nameOf (x .b)) n ≡ true)
     → itemOk n size (itemOf m x) ≡ true
 unfolding first second
@@ -108,7 +110,8 @@ made (M.Pack P.Add) x n size a b c d e f na nb = simp (na refl)
 made (M.Pack P.End) x n size a b c d e f na nb = refl
 made (M.Open H.If) x n size a b c d e f na nb = simp (a .operand, c .operand)
 made (M.Open H.Loop) x n size a b c d e f na nb = simp (a .operand, c .operand)
-made (M.Open H.Sweep) x n size a b c d e f na nb = simp (na refl, nb refl, c .operand, d .operand, e .operand, f .operand)
+made (M.Open H.Sweep) x n size a b c d e f na nb =
+    simp (na refl, nb refl, c .operand, d .operand, e .operand, f .operand)
 made (M.Branch B.ElseIf) x n size a b c d e f na nb = simp (a .operand, c .operand)
 made (M.Branch B.Else) x n size a b c d e f na nb = refl
 made (M.Close m) x n size a b c d e f na nb = refl
@@ -117,8 +120,13 @@ made M.Tag x n size a b c d e f na nb = refl
 
 -- ---- the table asks for a name where the item takes one
 
+-- the form that a letter of its shape asks for
+abbrev form : Command → ℕ → Form
+form c j = formOf (getD (c .shape) j 0)
+
 abbrev Asks : Command → Type 0
-Asks c = (first (c .make) ≡ isNamed (formOf (getD (c .shape) 0 0))) × (second (c .make) ≡ isNamed (formOf (getD (c .shape) 1 0))) × (isNew (formOf (getD (c .shape) 1 0)) ≡ false)
+Asks c =
+    (first (c .make) ≡ isNamed (form c 0)) × (second (c .make) ≡ isNamed (form c 1)) × (isNew (form c 1) ≡ false)
 
 abbrev All : List Command → Type 0
 All [] = Unit {0}
@@ -126,7 +134,94 @@ All (c ∷ cs) = Asks c × All cs
 
 all : All commands
 unfolding commands tagCommand first second isNamed isNew formOf padded
-all = ((refl, refl, refl), ((refl, refl, refl), ((refl, refl, refl), ((refl, refl, refl), ((refl, refl, refl), ((refl, refl, refl), ((refl, refl, refl), ((refl, refl, refl), ((refl, refl, refl), ((refl, refl, refl), ((refl, refl, refl), ((refl, refl, refl), ((refl, refl, refl), ((refl, refl, refl), ((refl, refl, refl), ((refl, refl, refl), ((refl, refl, refl), ((refl, refl, refl), ((refl, refl, refl), ((refl, refl, refl), ((refl, refl, refl), ((refl, refl, refl), ((refl, refl, refl), ((refl, refl, refl), ((refl, refl, refl), ((refl, refl, refl), ((refl, refl, refl), ((refl, refl, refl), ((refl, refl, refl), tt)))))))))))))))))))))))))))))
+all = (
+  (refl, refl, refl),
+  (
+    (refl, refl, refl),
+    (
+      (refl, refl, refl),
+      (
+        (refl, refl, refl),
+        (
+          (refl, refl, refl),
+          (
+            (refl, refl, refl),
+            (
+              (refl, refl, refl),
+              (
+                (refl, refl, refl),
+                (
+                  (refl, refl, refl),
+                  (
+                    (refl, refl, refl),
+                    (
+                      (refl, refl, refl),
+                      (
+                        (refl, refl, refl),
+                        (
+                          (refl, refl, refl),
+                          (
+                            (refl, refl, refl),
+                            (
+                              (refl, refl, refl),
+                              (
+                                (refl, refl, refl),
+                                (
+                                  (refl, refl, refl),
+                                  (
+                                    (refl, refl, refl),
+                                    (
+                                      (refl, refl, refl),
+                                      (
+                                        (refl, refl, refl),
+                                        (
+                                          (refl, refl, refl),
+                                          (
+                                            (refl, refl, refl),
+                                            (
+                                              (refl, refl, refl),
+                                              (
+                                                (refl, refl, refl),
+                                                (
+                                                  (refl, refl, refl),
+                                                  (
+                                                    (refl, refl, refl),
+                                                    (
+                                                      (refl, refl, refl),
+                                                      (
+                                                        (refl, refl, refl),
+                                                        (
+                                                          (refl, refl, refl),
+                                                          tt,
+                                                        ),
+                                                      ),
+                                                    ),
+                                                  ),
+                                                ),
+                                              ),
+                                            ),
+                                          ),
+                                        ),
+                                      ),
+                                    ),
+                                  ),
+                                ),
+                              ),
+                            ),
+                          ),
+                        ),
+                      ),
+                    ),
+                  ),
+                ),
+              ),
+            ),
+          ),
+        ),
+      ),
+    ),
+  ),
+)
 
 at-row : (cs : List Command) (d : Command) → All cs → Asks d → (k : ℕ) → Asks (getD cs k d)
 at-row [] d h g k = g
@@ -154,8 +249,8 @@ count-kept : (n m : ℕ) (b : Bool) → cond b (n + 1) n ≤ m → n ≤ m
 count-kept n m true h = omega arith
 count-kept n m false h = h
 
-pub judged-fit : (names : List (List ℕ)) (line : List ℕ) (i : ℕ) (it : Item) (n size : ℕ) → judged names line i ≡ item it
-    → counted (length names) it ≤ n → length line ≤ size → itemOk n size it ≡ true
+pub judged-fit : (names : List (List ℕ)) (line : List ℕ) (i : ℕ) (it : Item) (n size : ℕ)
+    → judged names line i ≡ item it → counted (length names) it ≤ n → length line ≤ size → itemOk n size it ≡ true
 unfolding judged argumentsAt item-of counted
 judged-fit names line i it n size e h l = go (seek commandWords (part line (wordAt line i))) e
   where
@@ -172,11 +267,16 @@ judged-fit names line i it n size e h l = go (seek commandWords (part line (word
         by none q e =
             let same : itemOf (commandAt k .make) x ≡ it = ap (λ (j : Judgement). item-of j it) e in
             let fine : (wrongOf (x .a) ≡ none) × (wrongOf (x .b) ≡ none) = two-fine x q in
-            let new : declares it ≡ isNew (formOf (getD (commandAt k .shape) 0 0)) = sym (ap declares same) ∙ right k x in
+            let fa : Form = form (commandAt k) 0 in
+            let fb : Form = form (commandAt k) 1 in
+            let at-b : ℕ = saidAt names line fa (wordAt line i .end) .stop in
+            let new : declares it ≡ isNew fa = sym (ap declares same) ∙ right k x in
+            let before-it = count-le (length names) n (declares it) (isNew fa) new h in
             let most : length names ≤ n = count-kept (length names) n (declares it) h in
             ap (itemOk n size) (sym same)
             ∙ made (commandAt k .make) x n size
             (fit n size names line _ _ most l) (fit n size names line _ _ most l) (fit n size names line _ _ most l)
             (fit n size names line _ _ most l) (fit n size names line _ _ most l) (fit n size names line _ _ most l)
-            (λ w. named-fit names line (formOf (getD (commandAt k .shape) 0 0)) (wordAt line i .end) n (sym (asks k .0) ∙ w) (count-le (length names) n (declares it) (isNew (formOf (getD (commandAt k .shape) 0 0))) new h) (fine .0))
-            (λ w. named-fit names line (formOf (getD (commandAt k .shape) 1 0)) (saidAt names line (formOf (getD (commandAt k .shape) 0 0)) (wordAt line i .end) .stop) n (sym (asks k .1) ∙ w) (count-le (length names) n false (isNew (formOf (getD (commandAt k .shape) 1 0))) (sym (asks k .2)) most) (fine .1))
+            (λ w. named-fit names line fa (wordAt line i .end) n (sym (asks k .0) ∙ w) before-it (fine .0))
+            (λ w. named-fit names line fb at-b n (sym (asks k .1) ∙ w)
+            (count-le (length names) n false (isNew fb) (sym (asks k .2)) most) (fine .1))

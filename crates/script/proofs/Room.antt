@@ -45,7 +45,94 @@ All (c ∷ cs) = Right c × All cs
 
 all : All commands
 unfolding commands tagCommand isNew formOf padded
-all = (λ x. refl, (λ x. refl, (λ x. refl, (λ x. refl, (λ x. refl, (λ x. refl, (λ x. refl, (λ x. refl, (λ x. refl, (λ x. refl, (λ x. refl, (λ x. refl, (λ x. refl, (λ x. refl, (λ x. refl, (λ x. refl, (λ x. refl, (λ x. refl, (λ x. refl, (λ x. refl, (λ x. refl, (λ x. refl, (λ x. refl, (λ x. refl, (λ x. refl, (λ x. refl, (λ x. refl, (λ x. refl, (λ x. refl, tt)))))))))))))))))))))))))))))
+all = (
+  λ x. refl,
+  (
+    λ x. refl,
+    (
+      λ x. refl,
+      (
+        λ x. refl,
+        (
+          λ x. refl,
+          (
+            λ x. refl,
+            (
+              λ x. refl,
+              (
+                λ x. refl,
+                (
+                  λ x. refl,
+                  (
+                    λ x. refl,
+                    (
+                      λ x. refl,
+                      (
+                        λ x. refl,
+                        (
+                          λ x. refl,
+                          (
+                            λ x. refl,
+                            (
+                              λ x. refl,
+                              (
+                                λ x. refl,
+                                (
+                                  λ x. refl,
+                                  (
+                                    λ x. refl,
+                                    (
+                                      λ x. refl,
+                                      (
+                                        λ x. refl,
+                                        (
+                                          λ x. refl,
+                                          (
+                                            λ x. refl,
+                                            (
+                                              λ x. refl,
+                                              (
+                                                λ x. refl,
+                                                (
+                                                  λ x. refl,
+                                                  (
+                                                    λ x. refl,
+                                                    (
+                                                      λ x. refl,
+                                                      (
+                                                        λ x. refl,
+                                                        (
+                                                          λ x. refl,
+                                                          tt,
+                                                        ),
+                                                      ),
+                                                    ),
+                                                  ),
+                                                ),
+                                              ),
+                                            ),
+                                          ),
+                                        ),
+                                      ),
+                                    ),
+                                  ),
+                                ),
+                              ),
+                            ),
+                          ),
+                        ),
+                      ),
+                    ),
+                  ),
+                ),
+              ),
+            ),
+          ),
+        ),
+      ),
+    ),
+  ),
+)
 
 at-row : (cs : List Command) (d : Command) → All cs → Right d → (k : ℕ) → Right (getD cs k d)
 at-row [] d h g k = g
@@ -103,7 +190,8 @@ item-of (item it) d = it
 item-of (refused k) d = d
 
 -- a line that declares a name does so where fewer than 32 are declared
-pub room : (names : List (List ℕ)) (line : List ℕ) (i : ℕ) (it : Item) → judged names line i ≡ item it → declares it ≡ true → length names < 32
+pub room : (names : List (List ℕ)) (line : List ℕ) (i : ℕ) (it : Item)
+    → judged names line i ≡ item it → declares it ≡ true → length names < 32
 unfolding judged argumentsAt item-of
 room names line i it e d = go (seek commandWords (part line (wordAt line i))) e
   where
@@ -137,7 +225,8 @@ count-few n it h r = go (declares it) refl
     go true e = let l : n < 32 = r e in record { most = omega arith; kept = omega arith; next = omega arith }
     go false e = record { most = h; kept = omega arith; next = omega arith }
 
-pub few : (p : Script) (names : List (List ℕ)) (line upto : List ℕ) (i nr : ℕ) → p .names ≡ length names → length names ≤ 32
+pub few : (p : Script) (names : List (List ℕ)) (line upto : List ℕ) (i nr : ℕ)
+    → p .names ≡ length names → length names ≤ 32
     → Few (p .names) (lineStep p names line upto i nr .script .names)
 unfolding lineStep appended
 few p names line upto i nr e h = tests (ltb 127 (length line)) (skipped line) (ltb (p .count) 128)
@@ -149,7 +238,9 @@ few p names line upto i nr e h = tests (ltb 127 (length line)) (skipped line) (l
     by (refused k) q = same
     by (item it) q = count-few (p .names) it (omega arith) (λ d. omega (arith, room names upto i it q d))
 
-    tests : (a b c : Bool) → Few (p .names) (taking p nr (cond a (given (refused 12)) (cond b nothing (cond c (given (judged names upto i)) (given (refused 13))))) .script .names)
+    tests : (a b c : Bool)
+        → Few (p .names) (taking p nr (cond a (given (refused 12))
+        (cond b nothing (cond c (given (judged names upto i)) (given (refused 13))))) .script .names)
     tests true b c = same
     tests false true c = same
     tests false false true = by (judged names upto i) refl

@@ -31,7 +31,9 @@ use Rattle.argument.specs.declared.Argument.the-variants as A
 use Rattle.argument.specs.declared.Form.{Form}
 use Rattle.argument.specs.declared.Form.the-variants as F
 use Rattle.argument.specs.Holds.{nameOf, operandOf, valueOf, textOf, wrongOf}
-use Rattle.argument.specs.Argument.{emptySaid, known, nameSaid, fresh, newSaid, valuedBy, literalSaid, knownOperand, literalOperand, operandSaid, letteredBy, typeSaid, numberedBy, numberSaid, signs, comparedBy, comparisonSaid, said, closedAt, textAt, isText, stopped, saidAt}
+use Rattle.argument.specs.Argument.{emptySaid, known, nameSaid, fresh, newSaid, valuedBy, literalSaid, knownOperand}
+use Rattle.argument.specs.Argument.{literalOperand, operandSaid, letteredBy, typeSaid, numberedBy, numberSaid, signs}
+use Rattle.argument.specs.Argument.{comparedBy, comparisonSaid, said, closedAt, textAt, isText, stopped, saidAt}
 use Rattle.script.proofs.Room.{isNew, never}
 
 -- ---- a row that is found is one of the table
@@ -54,13 +56,15 @@ place-below j [] key = tt
 place-below j (r ∷ rows) key =
     let l : j + 1 + length rows ≤ j + suc (length rows) = omega arith in
     let m : j < j + suc (length rows) = omega arith in
-    pick (sameBytes r key) (j + suc (length rows)) (At.At j) (place (j + 1) rows key) m (widen (place (j + 1) rows key) l (place-below (j + 1) rows key))
+    let later : Found = place (j + 1) rows key in
+    pick (sameBytes r key) (j + suc (length rows)) (At.At j) later m (widen later l (place-below (j + 1) rows key))
 
 pub seek-below : (rows : List (List ℕ)) (w : List ℕ) → Below (length rows) (seek rows w)
 unfolding seek
 seek-below rows w =
     let l : 0 + length rows ≤ length rows = omega arith in
-    pick (leb (length w) 16) (length rows) (place 0 rows (padded w)) At.Nothing (widen (place 0 rows (padded w)) l (place-below 0 rows (padded w))) tt
+    let row : Found = place 0 rows (padded w) in
+    pick (leb (length w) 16) (length rows) row At.Nothing (widen row l (place-below 0 rows (padded w))) tt
 
 -- ---- an argument in shape, in a table of n names over so many bytes
 
@@ -130,9 +134,12 @@ module _ (n size : ℕ) where
   said-fit : (form : Form) (names : List (List ℕ)) (w : List ℕ) → length names ≤ n → Fit n size (said form names w)
   unfolding said emptySaid newSaid nameSaid operandSaid literalSaid typeSaid numberSaid comparisonSaid
   said-fit F.Nothing names w h = either (eqb (length w) 0) _ _ empty-fit (wrong-fit R.BadArguments)
-  said-fit F.New names w h = either (nameForm w) _ _ (fresh-fit (length names) (seek names w)) (wrong-fit R.BadArguments)
+  said-fit F.New names w h =
+      either (nameForm w) _ _ (fresh-fit (length names) (seek names w)) (wrong-fit R.BadArguments)
   said-fit F.Name names w h = either (nameForm w) _ _ (known-fit (seek names w)) (wrong-fit R.BadArguments)
-  said-fit F.Operand names w h = either (nameForm w) _ _ (known-operand-fit (seek names w) (widen (seek names w) h (seek-below names w))) (literal-operand-fit (literal w) (literal-sound w))
+  said-fit F.Operand names w h =
+      let row = widen (seek names w) h (seek-below names w) in
+      either (nameForm w) _ _ (known-operand-fit (seek names w) row) (literal-operand-fit (literal w) (literal-sound w))
   said-fit F.Literal names w h = valued-fit (literal w) (literal-sound w)
   said-fit F.Letters names w h = type-fit (readType w)
   said-fit F.Number names w h = number-fit (smallOf w)
@@ -143,8 +150,12 @@ module _ (n size : ℕ) where
   unfolding finite
   closed-fit line f q h k = go (ltb q (length line)) refl
     where
-      go : (b : Bool) → ltb q (length line) ≡ b → Fit n size (cond b (stopped (A.Text (record { start = f; end = q })) (q + 1)) (stopped (A.Wrong R.BadArguments) (length line)) .argument)
-      go true e = let l : q ≤ size = omega (arith, ltb-true q (length line) e) in record { operand = refl; value = refl; text = simp (le-leb f q h, le-leb q size l) }
+      go : (b : Bool) → ltb q (length line) ≡ b
+          → Fit n size (cond b (stopped (A.Text (record { start = f; end = q })) (q + 1))
+          (stopped (A.Wrong R.BadArguments) (length line)) .argument)
+      go true e =
+          let l : q ≤ size = omega (arith, ltb-true q (length line) e) in
+          record { operand = refl; value = refl; text = simp (le-leb f q h, le-leb q size l) }
       go false e = wrong-fit R.BadArguments
 
   text-fit : (line : List ℕ) (i : ℕ) → length line ≤ size → Fit n size (textAt line i .argument)
@@ -154,15 +165,20 @@ module _ (n size : ℕ) where
       f : ℕ
       f = i + run Blank (drop i line) + 1
 
-      go : (b : Bool) → Fit n size (cond b (closedAt line f (f + before 34 (drop f line))) (stopped (A.Wrong R.BadArguments) (length line)) .argument)
+      go : (b : Bool)
+          → Fit n size (cond b (closedAt line f (f + before 34 (drop f line)))
+          (stopped (A.Wrong R.BadArguments) (length line)) .argument)
       go true = closed-fit line f (f + before 34 (drop f line)) (omega arith) k
       go false = wrong-fit R.BadArguments
 
-  pub fit : (names : List (List ℕ)) (line : List ℕ) (form : Form) (i : ℕ) → length names ≤ n → length line ≤ size → Fit n size (saidAt names line form i .argument)
+  pub fit : (names : List (List ℕ)) (line : List ℕ) (form : Form) (i : ℕ) → length names ≤ n → length line ≤ size
+      → Fit n size (saidAt names line form i .argument)
   unfolding saidAt
   fit names line form i h k = go (isText form)
     where
-      go : (b : Bool) → Fit n size (cond b (textAt line i) (stopped (said form names (part line (wordAt line i))) (wordAt line i .end)) .argument)
+      go : (b : Bool)
+          → Fit n size (cond b (textAt line i)
+          (stopped (said form names (part line (wordAt line i))) (wordAt line i .end)) .argument)
       go true = text-fit line i k
       go false = said-fit form names (part line (wordAt line i)) h
 
@@ -179,24 +195,29 @@ isNamed F.Number = false
 isNamed F.Comparison = false
 isNamed F.Text = false
 
-old-named : (names : List (List ℕ)) (w : List ℕ) (n : ℕ) → length names ≤ n → wrongOf (nameSaid names w) ≡ none → ltb (nameOf (nameSaid names w)) n ≡ true
+old-named : (names : List (List ℕ)) (w : List ℕ) (n : ℕ) → length names ≤ n → wrongOf (nameSaid names w) ≡ none
+    → ltb (nameOf (nameSaid names w)) n ≡ true
 unfolding nameSaid numberOf
 old-named names w n h k = go (nameForm w) (seek names w) (widen (seek names w) h (seek-below names w)) k
   where
-    go : (b : Bool) (f : Found) → Below n f → wrongOf (cond b (known f) (A.Wrong R.BadArguments)) ≡ none → ltb (nameOf (cond b (known f) (A.Wrong R.BadArguments))) n ≡ true
+    go : (b : Bool) (f : Found) → Below n f → wrongOf (cond b (known f) (A.Wrong R.BadArguments)) ≡ none
+        → ltb (nameOf (cond b (known f) (A.Wrong R.BadArguments))) n ≡ true
     go true (At.At i) l k = lt-ltb i n l
     go true At.Nothing l k = never k
     go false f l k = never k
 
-new-named : (names : List (List ℕ)) (w : List ℕ) (n : ℕ) → length names < n → wrongOf (newSaid names w) ≡ none → ltb (nameOf (newSaid names w)) n ≡ true
+new-named : (names : List (List ℕ)) (w : List ℕ) (n : ℕ) → length names < n → wrongOf (newSaid names w) ≡ none
+    → ltb (nameOf (newSaid names w)) n ≡ true
 unfolding newSaid numberOf
 new-named names w n h k = go (nameForm w) (seek names w) (ltb (length names) 32) k
   where
-    go : (b : Bool) (f : Found) (t : Bool) → wrongOf (cond b (fresh (length names) f) (A.Wrong R.BadArguments)) ≡ none → ltb (nameOf (cond b (fresh (length names) f) (A.Wrong R.BadArguments))) n ≡ true
+    go : (b : Bool) (f : Found) (t : Bool) → wrongOf (cond b (fresh (length names) f) (A.Wrong R.BadArguments)) ≡ none
+        → ltb (nameOf (cond b (fresh (length names) f) (A.Wrong R.BadArguments))) n ≡ true
     go true (At.At i) t k = never k
     go true At.Nothing t k = full (ltb (length names) 32) k
       where
-        full : (b : Bool) → wrongOf (cond b (A.Name (length names)) (A.Wrong R.TooManyNames)) ≡ none → ltb (nameOf (cond b (A.Name (length names)) (A.Wrong R.TooManyNames))) n ≡ true
+        full : (b : Bool) → wrongOf (cond b (A.Name (length names)) (A.Wrong R.TooManyNames)) ≡ none
+            → ltb (nameOf (cond b (A.Name (length names)) (A.Wrong R.TooManyNames))) n ≡ true
         full true k = lt-ltb (length names) n h
         full false k = never k
     go false f t k = never k
@@ -204,7 +225,8 @@ new-named names w n h k = go (nameForm w) (seek names w) (ltb (length names) 32)
 no : {X : Type 0} → false ≡ true → X
 no e = let z : _≡_ {A = ℕ} 0 1 = cc in absurd (omega arith)
 
-pub named-fit : (names : List (List ℕ)) (line : List ℕ) (form : Form) (i n : ℕ) → isNamed form ≡ true → cond (isNew form) (length names + 1) (length names) ≤ n
+pub named-fit : (names : List (List ℕ)) (line : List ℕ) (form : Form) (i n : ℕ) → isNamed form ≡ true
+    → cond (isNew form) (length names + 1) (length names) ≤ n
     → wrongOf (saidAt names line form i .argument) ≡ none → ltb (nameOf (saidAt names line form i .argument)) n ≡ true
 unfolding saidAt said isNamed isNew
 named-fit names line F.New i n e h k = new-named names (part line (wordAt line i)) n (omega arith) k

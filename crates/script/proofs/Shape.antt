@@ -15,22 +15,26 @@ use Rattle.table.specs.declared.Script.{Script}
 use Rattle.table.specs.Shape.{itemsIn, itemsOf, itemOk, itemsOk, inShape}
 use Rattle.word.specs.Word.{skipped}
 use Rattle.line.specs.Line.{Judgement, item, refused, judged}
-use Rattle.script.specs.Load.{Outcome, emptyScript, refusal, accepted, declares, counted, appended, Line, nothing, given, Step, taking, takenBy, lineStep, nameRow, named, walk, loaded}
+use Rattle.script.specs.Load.{Outcome, emptyScript, refusal, accepted, declares, counted, appended, Line}
+use Rattle.script.specs.Load.{nothing, given, Step, taking, takenBy, lineStep, nameRow, named, walk, loaded}
 use Rattle.script.proofs.Room.{Few, room, count-few, few}
 use Rattle.script.proofs.Items.{judged-fit}
 
 -- ---- one item more
 
-items-more : (ss : List Slot) (n : ℕ) (x : Slot) → n < length ss → itemsIn (suc n) (set ss n x) ≡ itemsIn n ss ++ (x .item ∷ [])
+items-more : (ss : List Slot) (n : ℕ) (x : Slot) → n < length ss
+    → itemsIn (suc n) (set ss n x) ≡ itemsIn n ss ++ (x .item ∷ [])
 items-more [] n x h = absurd (omega arith)
 items-more (s ∷ ss) zero x h = refl
 items-more (s ∷ ss) (suc n) x h = ap (λ (l : List Item). s .item ∷ l) (items-more ss n x (omega arith))
 
-items-ok : (n size : ℕ) (xs : List Item) (x : Item) → itemsOk n size xs ≡ true → itemOk n size x ≡ true → itemsOk n size (xs ++ (x ∷ [])) ≡ true
+items-ok : (n size : ℕ) (xs : List Item) (x : Item) → itemsOk n size xs ≡ true → itemOk n size x ≡ true
+    → itemsOk n size (xs ++ (x ∷ [])) ≡ true
 items-ok n size [] x h k = simp k
 items-ok n size (y ∷ xs) x h k = go (itemOk n size y) (itemsOk n size xs) refl refl (λ q. items-ok n size xs x q k) h
   where
-    go : (a b : Bool) → itemOk n size y ≡ a → itemsOk n size xs ≡ b → (itemsOk n size xs ≡ true → itemsOk n size (xs ++ (x ∷ [])) ≡ true) → (a && b) ≡ true
+    go : (a b : Bool) → itemOk n size y ≡ a → itemsOk n size xs ≡ b
+        → (itemsOk n size xs ≡ true → itemsOk n size (xs ++ (x ∷ [])) ≡ true) → (a && b) ≡ true
         → (itemOk n size y && itemsOk n size (xs ++ (x ∷ []))) ≡ true
     go true true p q more r = simp (p, more q)
     go true false p q more r = let z : _≡_ {A = ℕ} 0 1 = cc in absurd (omega arith)
@@ -47,11 +51,13 @@ record Sound (size : ℕ) (p : Script) : Type 0 where
 empty-sound : (size : ℕ) → Sound size emptyScript
 empty-sound size = record { long = refl; most = omega arith; known = omega arith; fits = λ n h. refl }
 
-module _ (size : ℕ) (p : Script) (names : List (List ℕ)) (upto : List ℕ) (i nr : ℕ) (s : Sound size p) (e : p .names ≡ length names) (u : length upto ≤ size) where
+module _ (size : ℕ) (p : Script) (names : List (List ℕ)) (upto : List ℕ) (i nr : ℕ)
+    (s : Sound size p) (e : p .names ≡ length names) (u : length upto ≤ size) where
   more : (it : Item) → judged names upto i ≡ item it → p .count < 128 → Sound size (appended p it nr)
   unfolding appended
   more it q c =
-      let f : Few (p .names) (counted (p .names) it) = count-few (p .names) it (s .known) (λ d. omega (arith, room names upto i it q d)) in
+      let f : Few (p .names) (counted (p .names) it) =
+      count-few (p .names) it (s .known) (λ d. omega (arith, room names upto i it q d)) in
       let x : Slot = record { item = it; line = nr } in
       let room-left : p .count < length (p .items) = omega (arith, s .long) in
       record {
@@ -61,7 +67,8 @@ module _ (size : ℕ) (p : Script) (names : List (List ℕ)) (upto : List ℕ) (
         fits = λ n h.
             ap (λ (m : ℕ). itemsOk n size (itemsIn m (set (p .items) (p .count) x))) (add-one (p .count))
             ∙ ap (itemsOk n size) (items-more (p .items) (p .count) x room-left)
-            ∙ items-ok n size (itemsOf p) it (s .fits n (omega (arith, h, f .kept))) (judged-fit names upto i it n size q (subst (λ (m : ℕ). counted m it ≤ n) e h) u);
+            ∙ items-ok n size (itemsOf p) it (s .fits n (omega (arith, h, f .kept)))
+            (judged-fit names upto i it n size q (subst (λ (m : ℕ). counted m it ≤ n) e h) u);
       }
 
   by-line : (j : Judgement) → judged names upto i ≡ j → p .count < 128 → Sound size (taking p nr (given j) .script)
@@ -72,7 +79,9 @@ module _ (size : ℕ) (p : Script) (names : List (List ℕ)) (upto : List ℕ) (
   unfolding lineStep
   step-sound line = tests (ltb 127 (length line)) (skipped line) (ltb (p .count) 128) refl
     where
-      tests : (a b c : Bool) → ltb (p .count) 128 ≡ c → Sound size (taking p nr (cond a (given (refused 12)) (cond b nothing (cond c (given (judged names upto i)) (given (refused 13))))) .script)
+      tests : (a b c : Bool) → ltb (p .count) 128 ≡ c
+          → Sound size (taking p nr (cond a (given (refused 12))
+          (cond b nothing (cond c (given (judged names upto i)) (given (refused 13))))) .script)
       tests true b c q = s
       tests false true c q = s
       tests false false true q = by-line (judged names upto i) refl (ltb-true _ _ q)
@@ -105,16 +114,19 @@ no a b e q = absurd (eqb-false a b e q)
 
 done : (size : ℕ) (p : Script) (nr : ℕ) → Sound size p → inShape size (accepted p nr .table) ≡ true
 unfolding inShape
-done size p nr s = simp (le-leb (p .count) 128 (s .most), le-leb (p .names) 32 (s .known), s .fits (p .names) (omega arith))
+done size p nr s =
+    simp (le-leb (p .count) 128 (s .most), le-leb (p .names) 32 (s .known), s .fits (p .names) (omega arith))
 
-walk-sound : (text : List ℕ) (p : Script) (names : List (List ℕ)) (i nr : ℕ) (ls : List (List ℕ)) → Sound (length text) p → p .names ≡ length names
+walk-sound : (text : List ℕ) (p : Script) (names : List (List ℕ)) (i nr : ℕ) (ls : List (List ℕ))
+    → Sound (length text) p → p .names ≡ length names
     → walk text p names i nr ls .number ≡ 0 → inShape (length text) (walk text p names i nr ls .table) ≡ true
 unfolding walk
 walk-sound text p names i nr [] s e z = absurd (omega arith)
 walk-sound text p names i nr (l ∷ ls) s e z =
     go (eqb (length l) 0) (eqb (t .number) 0) refl
     (walk-sound text (t .script) names' (i + length l + 1) (nr + 1) ls
-    (step-sound (length text) p names (take (i + length l) text) i nr s e (omega (arith, length-take (i + length l) text)) l)
+    (step-sound (length text) p names (take (i + length l) text) i nr s e
+    (omega (arith, length-take (i + length l) text)) l)
     (step-length p names (take (i + length l) text) i nr l e))
     z
   where

@@ -6,9 +6,9 @@ use lib.Dec.{ltb, eqb}
 use lib.ListN.{length, take, set, replicate}
 use Rattle.text.specs.Cut.{lines}
 use Rattle.table.specs.declared.Act.{Act}
-use Rattle.table.specs.declared.Act.the-variants.{Var as var, Store as store, Copy as copy, Calc as calc, Meas as meas, TimerGet as timerGet, SendString as sendString, Wait as wait, SetE as setE, SetMode as setMode, TimerStart as timerStart, CellOn as cellOn, CellOff as cellOff, Abort as abort}
+use Rattle.table.specs.declared.Act.the-variants as Act
 use Rattle.table.specs.declared.Item.{Item}
-use Rattle.table.specs.declared.Item.the-variants.{Act as act, Pack as pack, Open as opens, Branch as branch, Close as closes, Break as breakloop, Tag as tag}
+use Rattle.table.specs.declared.Item.the-variants as Item
 use Rattle.table.specs.declared.Script.{Script}
 use Rattle.word.specs.Word.{wordAt, part, padded, skipped}
 use Rattle.argument.specs.Refusal.{numberOf}
@@ -36,47 +36,64 @@ abbrev pub meaning : Loaded → Outcome
 meaning l = record { number = answerNumber (l .answer); line = answerLine (l .answer); table = l .script }
 
 abbrev pub emptyScript : Script
-emptyScript = record { items = replicate 128 (record { item = act (var 0); line = 0 }); count = 0; names = 0; end = 0 }
+emptyScript =
+    record {
+      items = replicate 128 (record { item = Item.Act (Act.Var 0); line = 0 });
+      count = 0;
+      names = 0;
+      end = 0;
+    }
 
 -- the table of a refused script is the empty one
 abbrev pub refusal : ℕ → ℕ → Outcome
 refusal k nr = record { number = k; line = nr; table = emptyScript }
 
 abbrev pub accepted : Script → ℕ → Outcome
-accepted p nr = record { number = 0; line = 0; table = record { items = p .items; count = p .count; names = p .names; end = nr } }
+accepted p nr =
+    record {
+      number = 0;
+      line = 0;
+      table = record { items = p .items; count = p .count; names = p .names; end = nr };
+    }
 
 -- ---- one item more, and the name that it declares
 
 abbrev pub declaresAct : Act → Bool
-declaresAct (var v) = true
-declaresAct (store v l t) = false
-declaresAct (copy a b) = false
-declaresAct (calc o v x) = false
-declaresAct (meas f v t) = false
-declaresAct (timerGet v) = false
-declaresAct (sendString a) = false
-declaresAct (wait f) = false
-declaresAct (setE f) = false
-declaresAct (setMode n) = false
-declaresAct timerStart = false
-declaresAct cellOn = false
-declaresAct cellOff = false
-declaresAct abort = false
+declaresAct (Act.Var v) = true
+declaresAct (Act.Store v l t) = false
+declaresAct (Act.Copy a b) = false
+declaresAct (Act.Calc o v x) = false
+declaresAct (Act.Meas f v t) = false
+declaresAct (Act.TimerGet v) = false
+declaresAct (Act.SendString a) = false
+declaresAct (Act.Wait f) = false
+declaresAct (Act.SetE f) = false
+declaresAct (Act.SetMode n) = false
+declaresAct Act.TimerStart = false
+declaresAct Act.CellOn = false
+declaresAct Act.CellOff = false
+declaresAct Act.Abort = false
 
 abbrev pub declares : Item → Bool
-declares (act a) = declaresAct a
-declares (pack p) = false
-declares (opens h) = false
-declares (branch b) = false
-declares (closes e) = false
-declares breakloop = false
-declares tag = false
+declares (Item.Act a) = declaresAct a
+declares (Item.Pack p) = false
+declares (Item.Open h) = false
+declares (Item.Branch b) = false
+declares (Item.Close e) = false
+declares Item.Break = false
+declares Item.Tag = false
 
 unfoldable pub counted : ℕ → Item → ℕ
 counted n it = cond (declares it) (n + 1) n
 
 unfoldable pub appended : Script → Item → ℕ → Script
-appended p it nr = record { items = set (p .items) (p .count) (record { item = it; line = nr }); count = p .count + 1; names = counted (p .names) it; end = p .end }
+appended p it nr =
+    record {
+      items = set (p .items) (p .count) (record { item = it; line = nr });
+      count = p .count + 1;
+      names = counted (p .names) it;
+      end = p .end;
+    }
 
 -- ---- one line that is not the ending one: 12, skipped, 13, then 14 to 18 or one item more
 

@@ -6,12 +6,9 @@ use table::Item;
 use table::Script;
 use table::Slot;
 ghost use mathlib.Core.Path.{_≡_};
-ghost use Prim.Native.Nat.{_≤_, _<_};
-ghost use lib.ListN.{set};
-ghost use mathlib.Core.Bool.{true, cond};
 ghost use Rattle.argument.specs.Refusal.{numberOf};
 ghost use Rattle.script.specs.Code.{takenOf};
-ghost use Rattle.script.specs.Load.{emptyScript, declaresAct, declares, counted, takenBy, nameRow};
+ghost use Rattle.script.specs.Load.{emptyScript, declaresAct, declares, takenBy, nameRow};
 ghost use Rattle.script.specs.Load.{meaning, refusal, accepted, loaded};
 
 pub enum Answer {
@@ -92,17 +89,6 @@ fn item_declares(item: Item) -> bool
     }
 }
 
-// How many names there are after an item.
-fn count_names(n: usize, item: Item) -> usize
-    requires { ⌜ n ≤ 32 ⌝ }
-    ensures { λ r. ⌜ r ≡ counted n item ⌝ }
-{
-    if item_declares(item) {
-        return n + 1;
-    }
-    n
-}
-
 // One line that is not the ending one, which stands from `at` up to the end of `upto`.
 fn take_line(count: usize, line: &[u8], upto: &[u8], at: usize, names: &[[u8; 16]]) -> Taken
     ensures { λ r. ⌜ takenOf r ≡ takenBy count (now (names .entry)) (now (line .entry)) (now (upto .entry)) at ⌝ }
@@ -135,20 +121,6 @@ fn name_row(line: &[u8]) -> [u8; 16]
     word::pad(&line[start..end])
 }
 
-// The names, with one more where a line's item declares one.
-fn put_name(names: [[u8; 16]; 32], n: usize, item: Item, line: &[u8]) -> [[u8; 16]; 32]
-    requires { ⌜ (declares item ≡ true → n < 32) ⌝ }
-    ensures { λ r. ⌜ r ≡ cond (declares item) (set names n (nameRow (now (line .entry)))) names ⌝ }
-{
-    if !item_declares(item) {
-        return names;
-    }
-    let row = name_row(line);
-    let mut t = names;
-    t[n] = row;
-    t
-}
-
 pub fn load(text: &[u8]) -> Loaded
     ensures { λ r. ⌜ meaning r ≡ loaded (now (text .entry)) ⌝ }
 {
@@ -156,8 +128,16 @@ pub fn load(text: &[u8]) -> Loaded
     if MOST_BYTES < size {
         return refuse(Refusal::TooLong, 0);
     }
-    // The table stays where it is: copied line by line it would cost more than all the reading.
-    let mut script = empty();
+    // The table stays where it is, and so do the names: copied line by line they would cost more than all the reading.
+    let mut script = Script {
+        items: [Slot {
+            item: Item::Act(Act::Var(0)),
+            line: 0,
+        }; 128],
+        count: 0,
+        names: 0,
+        end: 0,
+    };
     let mut names = [[b' '; 16]; 32];
     let mut at: usize = 0;
     let mut number: usize = 1;
@@ -179,11 +159,13 @@ pub fn load(text: &[u8]) -> Loaded
         match taken {
             Taken::Refused(refusal) => return refuse(refusal, here),
             Taken::Item(item) => {
-                let m = count_names(n, item);
-                names = put_name(names, n, item, line);
                 script.items[count] = Slot { item, line: here };
                 script.count = count + 1;
-                script.names = m;
+                if item_declares(item) {
+                    let row = name_row(line);
+                    names[n] = row;
+                    script.names = n + 1;
+                }
             }
             Taken::Skipped => {}
         }

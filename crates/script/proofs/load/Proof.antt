@@ -1,32 +1,99 @@
-use mathlib.Core.Path.{_≡_, refl, sym, _∙_, ap, subst}
-use Prim.Native.Nat.{ℕ, _+_, _-_, _≤_}
-use native.Mathlib.Omega.{arith}
+-- `script::load` goes through the lines in order. What is known at a place of a round is said once, at the place.
+-- Assumes nothing.
 use borrow.Author.Needs.{needs}
-use borrow.Author.Tests.{lt-ltb, le-ltb}
-use lib.ListN.{length, take, drop, replicate}
+use borrow.Author.Tests.{lt-ltb}
+use lib.ListN.{length, take}
 use lib.Seq.{length-take-le}
-use Rattle.text.specs.Cut.{lines}
-use Rattle.table.specs.declared.Script.{Script}
+use mathlib.Core.Bool.{true, false}
+use mathlib.Core.List.{List}
+use mathlib.Core.Path.{_≡_, sym, _∙_, ap}
+use native.Mathlib.Omega.{arith}
+use Prim.Native.Nat.{ℕ, _-_, _<_}
 use Rattle.argument.specs.Refusal.{numberOf}
-use Rattle.script.specs.Load.{takenBy, nameRow, walk, loaded}
-use Rattle.script.specs.Code.{takenOf}
-use Rattle.script.proofs.Walk as L
+use Rattle.line.specs.Line.{item}
 use Rattle.script.proofs.load.Statement.{statement}
 use Rattle.script.proofs.load.Tie as tie
+use Rattle.script.proofs.Walk.{Loading, begin, no-line, Sought, no-end, ended, Round, known-as, refuses, skips}
+use Rattle.script.proofs.Walk.{room-for, room-left, takes-plain, takes-name}
+use Rattle.script.specs.Code.{takenOf}
+use Rattle.script.specs.Load.{declares, given, loaded}
+use Rattle.table.specs.declared.Item.{Item}
 
 abbrev Inv-loop : tie.InvT-loop
-Inv-loop text size script₀ names₀ at₀ number₀ script names at number = (at ≤ length text) × ((number ≤ at + 1) × ((script .names ≤ 32) × ((length names ≡ 32) × ((length text ≤ 8192) × (walk text script (take (script .names) names) at number (lines (drop at text)) ≡ loaded text)))))
+Inv-loop text size script₀ names₀ at₀ number₀ script names at number = Loading text script names at number
 
 abbrev μ-loop : tie.MeasureT-loop
 μ-loop text size script₀ names₀ at₀ number₀ script names at number = length text - at
 
-told : (c : tie.After-take-line Inv-loop μ-loop) → takenOf (c .take-line .result) ≡ L.said (c .before .before .before .before .before .before .before .before .before .before .before .before .args .text .now) (c .before .before .before .before .before .before .before .before .loop .at) (c .before .before .before .before .before .before .next-byte .result) (c .before .before .before .before .before .before .next-byte .ensures .is) (c .before .before .before .before .before .before .before .before .loop .inv .0) (c .before .before .before .before .before .before .before .before .loop .script) (c .before .before .before .before .before .before .before .before .loop .names) (c .before .before .before .before .before .before .before .before .loop .number) (c .before .before .before .before .before .if2 .left) (c .before .before .before .before .if3 .left)
-told c =
-    c .take-line .ensures
-    ∙ ap (λ (n : ℕ). takenBy (c .before .before .before .before .before .before .before .before .loop .script .count) (take (c .before .before .before .before .before .before .before .before .loop .script .names) (c .before .before .before .before .before .before .before .before .loop .names)) (L.line (c .before .before .before .before .before .before .before .before .before .before .before .before .args .text .now) (c .before .before .before .before .before .before .before .before .loop .at) (c .before .before .before .before .before .before .next-byte .result) (c .before .before .before .before .before .before .next-byte .ensures .is) (c .before .before .before .before .before .before .before .before .loop .inv .0)) (take n (c .before .before .before .before .before .before .before .before .before .before .before .before .args .text .now)) (c .before .before .before .before .before .before .before .before .loop .at)) (less-none (c .before .before .before .before .before .before .next-byte .result))
-  where
-    less-none : (n : ℕ) → n - 0 ≡ n
-    less-none n = omega arith
+-- ---- the places
+
+-- at the loop's head
+module _ (c : tie.At-loop Inv-loop μ-loop) where
+  abbrev text : List ℕ
+  text = c .before .before .before .args .text .now
+
+-- with the place of the next newline
+module _ (c : tie.After-next-byte Inv-loop μ-loop) where
+  abbrev head : tie.At-loop Inv-loop μ-loop
+  head = c .before .before
+
+  abbrev stop : ℕ
+  stop = c .next-byte .result
+
+  sought : Sought (text head) (head .loop .script) (head .loop .names) (head .loop .at) (head .loop .number) stop
+  sought = record { inv = head .loop .inv; ends = c .next-byte .ensures .is }
+
+-- with what the line gives
+module _ (c : tie.After-take-line Inv-loop μ-loop) where
+  abbrev full : tie.Else3 Inv-loop μ-loop
+  full = c .before .before .before .before
+
+  abbrev found : tie.After-next-byte Inv-loop μ-loop
+  found = full .before .before
+
+  abbrev start : tie.At-loop Inv-loop μ-loop
+  start = head found
+
+  whole : stop found - 0 ≡ stop found
+  whole = omega arith
+
+  round : Round (text start) (start .loop .script) (start .loop .names) (start .loop .at) (start .loop .number)
+      (stop found) (takenOf (c .take-line .result))
+  round =
+      record {
+        sought = sought found;
+        more = full .before .if2 .left;
+        some = full .if3 .left;
+        takes = rw whole at (c .take-line .ensures);
+      }
+
+-- with its item
+module _ (c : tie.After-known-told2 Inv-loop μ-loop) where
+  abbrev taken : tie.After-take-line Inv-loop μ-loop
+  taken = c .before .before .before
+
+  abbrev it : Item
+  it = c .before .taken2 .given .0 .0
+
+  abbrev begun : tie.At-loop Inv-loop μ-loop
+  begun = start taken
+
+  with-item : Round (text begun) (begun .loop .script) (begun .loop .names) (begun .loop .at) (begun .loop .number)
+      (stop (found taken)) (given (item it))
+  with-item = known-as (round taken) (ap takenOf (c .before .taken2 .given .1))
+
+-- with an item that declares a name
+module _ (c : tie.Then4 Inv-loop μ-loop) where
+  abbrev made : tie.After-known-told2 Inv-loop μ-loop
+  made = c .before .before
+
+  declared : declares (it made) ≡ true
+  declared = sym (c .before .item-declares .ensures) ∙ c .if4 .taken
+
+  room : begun made .loop .script .names < 32
+  room = room-for (with-item made) declared
+
+-- ---- the needs
 
 refuse-requires : tie.Need-refuse-requires Inv-loop μ-loop
 refuse-requires c κs = search needs
@@ -35,12 +102,8 @@ returns : tie.Need-returns Inv-loop μ-loop
 unfolding loaded numberOf
 returns c = c .refuse .ensures ∙ simp (lt-ltb _ _ (c .before .if1 .taken))
 
-empty-requires : tie.Need-empty-requires Inv-loop μ-loop
-empty-requires c κs = search needs
-
 loop-holds : tie.Need-loop-holds Inv-loop μ-loop
-unfolding loaded
-loop-holds c = (omega arith, (omega arith, (subst (λ (p : Script). p .names ≤ 32) (sym (c .empty .ensures)) (omega arith), (refl, (omega arith, ap (λ (p : Script). walk (c .before .before .before .args .text .now) p (take (p .names) (replicate 32 (replicate 16 32))) 0 1 (lines (c .before .before .before .args .text .now))) (c .empty .ensures) ∙ simp (le-ltb _ _ (c .before .if1 .left)))))))
+loop-holds c = begin _ (c .if1 .left)
 
 next-byte-requires : tie.Need-next-byte-requires Inv-loop μ-loop
 next-byte-requires c κs = search needs
@@ -50,37 +113,42 @@ refuse-requires-2 c κs = search needs
 
 returns-2 : tie.Need-returns-2 Inv-loop μ-loop
 unfolding numberOf
-returns-2 c = c .refuse2 .ensures ∙ sym (L.out-of-lines (c .before .before .before .before .before .before .before .before .args .text .now) (c .before .before .before .before .loop .at) (c .before .before .next-byte .result) (c .before .before .next-byte .ensures .is) (c .before .before .before .before .loop .inv .0) (c .before .before .before .before .loop .script) (take (c .before .before .before .before .loop .script .names) (c .before .before .before .before .loop .names)) (c .before .before .before .before .loop .number) (c .before .if2 .taken)) ∙ c .before .before .before .before .loop .inv .1 .1 .1 .1 .1
+returns-2 c = c .refuse2 .ensures ∙ no-end (sought (c .before .before)) (c .before .if2 .taken)
 
 accept-requires : tie.Need-accept-requires Inv-loop μ-loop
 accept-requires c κs = search needs
 
 returns-3 : tie.Need-returns-3 Inv-loop μ-loop
-returns-3 c = c .accept .ensures ∙ sym (L.at-empty (c .before .before .before .before .before .before .before .before .before .args .text .now) (c .before .before .before .before .before .loop .at) (c .before .before .before .next-byte .result) (c .before .before .before .next-byte .ensures .is) (c .before .before .before .before .before .loop .inv .0) (c .before .before .before .before .before .loop .script) (take (c .before .before .before .before .before .loop .script .names) (c .before .before .before .before .before .loop .names)) (c .before .before .before .before .before .loop .number) (c .before .before .if2 .left) (c .before .if3 .taken)) ∙ c .before .before .before .before .before .loop .inv .1 .1 .1 .1 .1
+returns-3 c =
+    c .accept .ensures
+    ∙ ended (sought (c .before .before .before)) (c .before .before .if2 .left) (c .before .if3 .taken)
 
 sub-line : tie.Need-sub-line Inv-loop μ-loop
-sub-line c = omega (arith, c .before .before .next-byte .ensures .is)
+sub-line c = omega (arith, sought (c .before .before) .ends)
 
 part-line-start : tie.Need-part-line-start Inv-loop μ-loop
-part-line-start c = omega (arith, c .before .before .next-byte .ensures .is)
+part-line-start c = omega (arith, sought (c .before .before) .ends)
 
 part-line-end : tie.Need-part-line-end Inv-loop μ-loop
-part-line-end c = omega (arith, c .before .before .next-byte .ensures .is)
+part-line-end c = omega (arith, sought (c .before .before) .ends)
 
 sub-take-line : tie.Need-sub-take-line Inv-loop μ-loop
-sub-take-line c = omega (arith, c .before .before .before .next-byte .ensures .is)
+sub-take-line c = omega (arith, sought (c .before .before .before) .ends)
 
 part-take-line-start : tie.Need-part-take-line-start Inv-loop μ-loop
-part-take-line-start c = omega (arith, c .before .before .before .next-byte .ensures .is)
+part-take-line-start c = omega (arith, sought (c .before .before .before) .ends)
 
 part-take-line-end : tie.Need-part-take-line-end Inv-loop μ-loop
-part-take-line-end c = omega (arith, c .before .before .before .next-byte .ensures .is)
+part-take-line-end c = omega (arith, sought (c .before .before .before) .ends)
 
 array-share-prefix-names : tie.Need-array-share-prefix-names Inv-loop μ-loop
 array-share-prefix-names c = search needs
 
 slice-aggregate-take-line : tie.Need-slice-aggregate-take-line Inv-loop μ-loop
-slice-aggregate-take-line c = sym (length-take-le (c .before .before .before .before .before .before .before .loop .script .names) (c .before .before .before .before .before .before .before .loop .names) (omega (arith, c .before .before .before .before .before .before .before .loop .inv .1 .1 .0, c .before .before .before .before .before .before .before .loop .inv .1 .1 .1 .0)))
+slice-aggregate-take-line c =
+    let line = c .before .before in
+    let now = head (line .before .before .before) .loop in
+    sym (length-take-le (now .script .names) (now .names) (omega (arith, now .inv .few, now .inv .wide)))
 
 take-line-requires : tie.Need-take-line-requires Inv-loop μ-loop
 take-line-requires c κs = search needs
@@ -89,7 +157,7 @@ add-at : tie.Need-add-at Inv-loop μ-loop
 add-at c = search needs
 
 add-number : tie.Need-add-number Inv-loop μ-loop
-add-number c = omega arith
+add-number c = omega (arith, start c .loop .inv)
 
 enum-known-taken : tie.Need-enum-known-taken Inv-loop μ-loop
 enum-known-taken c = search needs
@@ -98,71 +166,74 @@ refuse-requires-3 : tie.Need-refuse-requires-3 Inv-loop μ-loop
 refuse-requires-3 c κs = search needs
 
 returns-4 : tie.Need-returns-4 Inv-loop μ-loop
-returns-4 c = c .refuse3 .ensures ∙ L.refuses (c .before .before .before .before .before .before .before .before .before .before .before .before .before .before .before .before .args .text .now) (c .before .before .before .before .before .before .before .before .before .before .before .before .loop .at) (c .before .before .before .before .before .before .before .before .before .before .next-byte .result) (c .before .before .before .before .before .before .before .before .before .before .next-byte .ensures .is) (c .before .before .before .before .before .before .before .before .before .before .before .before .loop .inv .0) (c .before .before .before .before .before .before .before .before .before .before .before .before .loop .script) (c .before .before .before .before .before .before .before .before .before .before .before .before .loop .names) (c .before .before .before .before .before .before .before .before .before .before .before .before .loop .number) (c .before .before .before .before .before .before .before .before .before .if2 .left) (c .before .before .before .before .before .before .before .before .if3 .left) (c .before .before .taken .given .0 .0) (ap takenOf (sym (c .before .before .taken .given .1)) ∙ told (c .before .before .before .before)) ∙ c .before .before .before .before .before .before .before .before .before .before .before .before .loop .inv .1 .1 .1 .1 .1
+returns-4 c =
+    let given = c .before .before in
+    c .refuse3 .ensures ∙ refuses _ (known-as (round (given .before .before)) (ap takenOf (given .taken .given .1)))
 
 enum-known-taken-2 : tie.Need-enum-known-taken-2 Inv-loop μ-loop
 enum-known-taken-2 c = search needs
 
-count-names-requires : tie.Need-count-names-requires Inv-loop μ-loop
-count-names-requires c κs = c .before .before .before .before .before .before .before .before .before .before .before .loop .inv .1 .1 .0
-
-put-name-requires : tie.Need-put-name-requires Inv-loop μ-loop
-put-name-requires c κs = L.room-for (c .before .before .before .before .before .before .before .before .before .before .before .before .before .before .before .before .args .text .now) (c .before .before .before .before .before .before .before .before .before .before .before .before .loop .at) (c .before .before .before .before .before .before .before .before .before .before .next-byte .result) (c .before .before .before .before .before .before .before .before .before .before .next-byte .ensures .is) (c .before .before .before .before .before .before .before .before .before .before .before .before .loop .inv .0) (c .before .before .before .before .before .before .before .before .before .before .before .before .loop .script) (c .before .before .before .before .before .before .before .before .before .before .before .before .loop .names) (c .before .before .before .before .before .before .before .before .before .before .before .before .loop .number) (c .before .before .before .before .before .before .before .before .before .if2 .left) (c .before .before .before .before .before .before .before .before .if3 .left) (c .before .before .taken2 .given .0 .0) (ap takenOf (sym (c .before .before .taken2 .given .1)) ∙ told (c .before .before .before .before)) (c .before .before .before .before .before .before .before .before .before .before .before .before .loop .inv .1 .1 .0) (c .before .before .before .before .before .before .before .before .before .before .before .before .loop .inv .1 .1 .1 .0)
-
-mul-t34 : tie.Need-mul-t34 Inv-loop μ-loop
-mul-t34 c = omega (arith, L.room-left (c .before .before .before .before .before .before .before .before .before .before .before .before .before .before .before .before .before .args .text .now) (c .before .before .before .before .before .before .before .before .before .before .before .before .before .loop .at) (c .before .before .before .before .before .before .before .before .before .before .before .next-byte .result) (c .before .before .before .before .before .before .before .before .before .before .before .next-byte .ensures .is) (c .before .before .before .before .before .before .before .before .before .before .before .before .before .loop .inv .0) (c .before .before .before .before .before .before .before .before .before .before .before .before .before .loop .script) (c .before .before .before .before .before .before .before .before .before .before .before .before .before .loop .names) (c .before .before .before .before .before .before .before .before .before .before .before .before .before .loop .number) (c .before .before .before .before .before .before .before .before .before .before .if2 .left) (c .before .before .before .before .before .before .before .before .before .if3 .left) (c .before .before .before .taken2 .given .0 .0) (ap takenOf (sym (c .before .before .before .taken2 .given .1)) ∙ told (c .before .before .before .before .before)) (c .before .before .before .before .before .before .before .before .before .before .before .before .before .loop .inv .1 .1 .0) (c .before .before .before .before .before .before .before .before .before .before .before .before .before .loop .inv .1 .1 .1 .0))
+mul-t35 : tie.Need-mul-t35 Inv-loop μ-loop
+mul-t35 c = omega (arith, room-left (with-item c))
 
 element-set-from-script : tie.Need-element-set-from-script Inv-loop μ-loop
-element-set-from-script c = omega (arith, L.room-left (c .before .before .before .before .before .before .before .before .before .before .before .before .before .before .before .before .before .args .text .now) (c .before .before .before .before .before .before .before .before .before .before .before .before .before .loop .at) (c .before .before .before .before .before .before .before .before .before .before .before .next-byte .result) (c .before .before .before .before .before .before .before .before .before .before .before .next-byte .ensures .is) (c .before .before .before .before .before .before .before .before .before .before .before .before .before .loop .inv .0) (c .before .before .before .before .before .before .before .before .before .before .before .before .before .loop .script) (c .before .before .before .before .before .before .before .before .before .before .before .before .before .loop .names) (c .before .before .before .before .before .before .before .before .before .before .before .before .before .loop .number) (c .before .before .before .before .before .before .before .before .before .before .if2 .left) (c .before .before .before .before .before .before .before .before .before .if3 .left) (c .before .before .before .taken2 .given .0 .0) (ap takenOf (sym (c .before .before .before .taken2 .given .1)) ∙ told (c .before .before .before .before .before)) (c .before .before .before .before .before .before .before .before .before .before .before .before .before .loop .inv .1 .1 .0) (c .before .before .before .before .before .before .before .before .before .before .before .before .before .loop .inv .1 .1 .1 .0))
+element-set-from-script c = omega (arith, room-left (with-item c))
 
 add-script : tie.Need-add-script Inv-loop μ-loop
-add-script c = omega (arith, L.room-left (c .before .before .before .before .before .before .before .before .before .before .before .before .before .before .before .before .before .args .text .now) (c .before .before .before .before .before .before .before .before .before .before .before .before .before .loop .at) (c .before .before .before .before .before .before .before .before .before .before .before .next-byte .result) (c .before .before .before .before .before .before .before .before .before .before .before .next-byte .ensures .is) (c .before .before .before .before .before .before .before .before .before .before .before .before .before .loop .inv .0) (c .before .before .before .before .before .before .before .before .before .before .before .before .before .loop .script) (c .before .before .before .before .before .before .before .before .before .before .before .before .before .loop .names) (c .before .before .before .before .before .before .before .before .before .before .before .before .before .loop .number) (c .before .before .before .before .before .before .before .before .before .before .if2 .left) (c .before .before .before .before .before .before .before .before .before .if3 .left) (c .before .before .before .taken2 .given .0 .0) (ap takenOf (sym (c .before .before .before .taken2 .given .1)) ∙ told (c .before .before .before .before .before)) (c .before .before .before .before .before .before .before .before .before .before .before .before .before .loop .inv .1 .1 .0) (c .before .before .before .before .before .before .before .before .before .before .before .before .before .loop .inv .1 .1 .1 .0))
+add-script c = omega (arith, room-left (with-item c))
+
+item-declares-requires : tie.Need-item-declares-requires Inv-loop μ-loop
+item-declares-requires c κs = search needs
+
+name-row-requires : tie.Need-name-row-requires Inv-loop μ-loop
+name-row-requires c κs = search needs
+
+mul-names : tie.Need-mul-names Inv-loop μ-loop
+mul-names c = omega (arith, room (c .before))
+
+array-set-from-names : tie.Need-array-set-from-names Inv-loop μ-loop
+array-set-from-names c = room (c .before)
+
+add-script-2 : tie.Need-add-script-2 Inv-loop μ-loop
+add-script-2 c = omega (arith, room (c .before))
 
 loop-less : tie.Need-loop-less Inv-loop μ-loop
 loop-less c = search needs
 
 loop-again : tie.Need-loop-again Inv-loop μ-loop
-loop-again c = (
-  omega arith,
-  (
-    omega arith,
-    (
-      omega (arith, c .before .count-names .ensures, L.names-few (c .before .before .before .before .before .before .before .before .before .before .before .before .before .before .before .before .before .args .text .now) (c .before .before .before .before .before .before .before .before .before .before .before .before .before .loop .at) (c .before .before .before .before .before .before .before .before .before .before .before .next-byte .result) (c .before .before .before .before .before .before .before .before .before .before .before .next-byte .ensures .is) (c .before .before .before .before .before .before .before .before .before .before .before .before .before .loop .inv .0) (c .before .before .before .before .before .before .before .before .before .before .before .before .before .loop .script) (c .before .before .before .before .before .before .before .before .before .before .before .before .before .loop .names) (c .before .before .before .before .before .before .before .before .before .before .before .before .before .loop .number) (c .before .before .before .before .before .before .before .before .before .before .if2 .left) (c .before .before .before .before .before .before .before .before .before .if3 .left) (c .before .before .before .taken2 .given .0 .0) (ap takenOf (sym (c .before .before .before .taken2 .given .1)) ∙ told (c .before .before .before .before .before)) (c .before .before .before .before .before .before .before .before .before .before .before .before .before .loop .inv .1 .1 .0) (c .before .before .before .before .before .before .before .before .before .before .before .before .before .loop .inv .1 .1 .1 .0) .most),
-      (
-        ap length (c .put-name .ensures) ∙ L.put-long (c .before .before .before .before .before .before .before .before .before .before .before .before .before .loop .names) (c .before .before .before .before .before .before .before .before .before .before .before .before .before .loop .script .names) (c .before .before .before .taken2 .given .0 .0) (nameRow (L.line (c .before .before .before .before .before .before .before .before .before .before .before .before .before .before .before .before .before .args .text .now) (c .before .before .before .before .before .before .before .before .before .before .before .before .before .loop .at) (c .before .before .before .before .before .before .before .before .before .before .before .next-byte .result) (c .before .before .before .before .before .before .before .before .before .before .before .next-byte .ensures .is) (c .before .before .before .before .before .before .before .before .before .before .before .before .before .loop .inv .0))) (c .before .before .before .before .before .before .before .before .before .before .before .before .before .loop .inv .1 .1 .1 .0),
-        (
-          omega arith,
-          L.takes (c .before .before .before .before .before .before .before .before .before .before .before .before .before .before .before .before .before .args .text .now) (c .before .before .before .before .before .before .before .before .before .before .before .before .before .loop .at) (c .before .before .before .before .before .before .before .before .before .before .before .next-byte .result) (c .before .before .before .before .before .before .before .before .before .before .before .next-byte .ensures .is) (c .before .before .before .before .before .before .before .before .before .before .before .before .before .loop .inv .0) (c .before .before .before .before .before .before .before .before .before .before .before .before .before .loop .script) (c .before .before .before .before .before .before .before .before .before .before .before .before .before .loop .names) (c .before .before .before .before .before .before .before .before .before .before .before .before .before .loop .number) (c .before .before .before .before .before .before .before .before .before .before .if2 .left) (c .before .before .before .before .before .before .before .before .before .if3 .left) (c .before .before .before .taken2 .given .0 .0) (ap takenOf (sym (c .before .before .before .taken2 .given .1)) ∙ told (c .before .before .before .before .before)) (c .before .before .before .before .before .before .before .before .before .before .before .before .before .loop .inv .1 .1 .0) (c .before .before .before .before .before .before .before .before .before .before .before .before .before .loop .inv .1 .1 .1 .0) (c .before .count-names .result) (c .put-name .result) (c .before .count-names .ensures) (c .put-name .ensures) ∙ c .before .before .before .before .before .before .before .before .before .before .before .before .before .loop .inv .1 .1 .1 .1 .1,
-        ),
-      ),
-    ),
-  ),
-)
-
-enum-told : tie.Need-enum-told Inv-loop μ-loop
-enum-told c = search needs
+loop-again c = rw (← c .name-row .ensures) at (takes-name (with-item (made (c .before))) (declared (c .before)))
 
 loop-less-2 : tie.Need-loop-less-2 Inv-loop μ-loop
 loop-less-2 c = search needs
 
 loop-again-2 : tie.Need-loop-again-2 Inv-loop μ-loop
-loop-again-2 c = (omega arith, (omega arith, (c .before .before .before .before .before .before .before .before .before .before .loop .inv .1 .1 .0, (c .before .before .before .before .before .before .before .before .before .before .loop .inv .1 .1 .1 .0, (omega arith, L.skips (c .before .before .before .before .before .before .before .before .before .before .before .before .before .before .args .text .now) (c .before .before .before .before .before .before .before .before .before .before .loop .at) (c .before .before .before .before .before .before .before .before .next-byte .result) (c .before .before .before .before .before .before .before .before .next-byte .ensures .is) (c .before .before .before .before .before .before .before .before .before .before .loop .inv .0) (c .before .before .before .before .before .before .before .before .before .before .loop .script) (c .before .before .before .before .before .before .before .before .before .before .loop .names) (c .before .before .before .before .before .before .before .before .before .before .loop .number) (c .before .before .before .before .before .before .before .if2 .left) (c .before .before .before .before .before .before .if3 .left) (ap takenOf (sym (c .enum-told .given .1)) ∙ told (c .before .before)) ∙ c .before .before .before .before .before .before .before .before .before .before .loop .inv .1 .1 .1 .1 .1)))))
+loop-again-2 c =
+    takes-plain (with-item (c .before .before)) (sym (c .before .item-declares .ensures) ∙ c .if4 .left)
+
+enum-told : tie.Need-enum-told Inv-loop μ-loop
+enum-told c = search needs
+
+loop-less-3 : tie.Need-loop-less-3 Inv-loop μ-loop
+loop-less-3 c = search needs
+
+loop-again-3 : tie.Need-loop-again-3 Inv-loop μ-loop
+loop-again-3 c = skips (known-as (round (c .before .before)) (ap takenOf (c .enum-told .given .1)))
 
 refuse-requires-4 : tie.Need-refuse-requires-4 Inv-loop μ-loop
 refuse-requires-4 c κs = search needs
 
 returns-5 : tie.Need-returns-5 Inv-loop μ-loop
 unfolding numberOf
-returns-5 c = c .refuse4 .ensures ∙ sym (L.past-end (c .before .before .before .before .before .before .args .text .now) (c .before .before .loop .at) (c .before .before .loop .script) (take (c .before .before .loop .script .names) (c .before .before .loop .names)) (c .before .before .loop .number) (c .before .loop-test .left)) ∙ c .before .before .loop .inv .1 .1 .1 .1 .1
+returns-5 c = c .refuse4 .ensures ∙ no-line (c .before .before .loop .inv) (c .before .loop-test .left)
 
 pub load-spec : {M : Type 1} → statement M
 load-spec =
     tie.close
     (tie.spec
-    Inv-loop μ-loop refuse-requires returns empty-requires loop-holds next-byte-requires
+    Inv-loop μ-loop refuse-requires returns loop-holds next-byte-requires
     refuse-requires-2 returns-2 accept-requires returns-3 sub-line part-line-start part-line-end
     sub-take-line part-take-line-start part-take-line-end array-share-prefix-names
     slice-aggregate-take-line take-line-requires add-at add-number enum-known-taken
-    refuse-requires-3 returns-4 enum-known-taken-2 count-names-requires put-name-requires mul-t34
-    element-set-from-script add-script loop-less loop-again enum-told loop-less-2 loop-again-2
-    refuse-requires-4 returns-5)
+    refuse-requires-3 returns-4 enum-known-taken-2 mul-t35 element-set-from-script add-script
+    item-declares-requires name-row-requires mul-names array-set-from-names add-script-2 loop-less
+    loop-again loop-less-2 loop-again-2 enum-told loop-less-3 loop-again-3 refuse-requires-4 returns-5)

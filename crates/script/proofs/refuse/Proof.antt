@@ -9,7 +9,9 @@ empty-requires : tie.Need-empty-requires
 empty-requires c κs = search needs
 
 returns : tie.Need-returns
-returns c = ap (λ (p : Script). record { number = numberOf (c .before .args .why); line = c .before .args .line; table = p }) (c .empty .ensures)
+returns c =
+    let args = c .before .args in
+    ap (λ (p : Script). record { number = numberOf (args .why); line = args .line; table = p }) (c .empty .ensures)
 
 pub refuse-spec : {M : Type 1} → statement M
 refuse-spec = tie.close (tie.spec empty-requires returns)

@@ -1,10 +1,31 @@
-use mathlib.Core.Path.{sym, _∙_, ap}
+-- `script::take_line` tests a line's length, whether it is skipped, and the room, then judges it. Assumes nothing.
+use borrow.Author.Needs.{needs}
 use borrow.Author.Tests.{lt-ltb, le-ltb}
+use lib.Dec.{ltb}
+use lib.ListN.{length}
+use mathlib.Core.Bool.{true, false}
+use mathlib.Core.List.{List}
+use mathlib.Core.Path.{_≡_, sym, _∙_, ap}
+use Prim.Native.Nat.{ℕ}
 use Rattle.argument.specs.Refusal.{numberOf}
 use Rattle.line.specs.Line.{meaning as lineMeaning}
-use borrow.Author.Needs.{needs}
 use Rattle.script.proofs.take_line.Statement.{statement}
 use Rattle.script.proofs.take_line.Tie as tie
+use Rattle.word.specs.Word.{skipped}
+
+-- with a line that is neither too long nor skipped
+module _ (c : tie.Else2) where
+  abbrev tested : tie.Else1
+  tested = c .before .before
+
+  abbrev line : List ℕ
+  line = tested .before .before .before .args .line .now
+
+  short : ltb 127 (length line) ≡ false
+  short = le-ltb _ _ (tested .if1 .left)
+
+  not-skipped : skipped line ≡ false
+  not-skipped = sym (c .before .is-skipped .ensures) ∙ c .if2 .left
 
 returns : tie.Need-returns
 unfolding numberOf
@@ -27,15 +48,23 @@ enum-known-item c = search needs
 
 returns-3 : tie.Need-returns-3
 unfolding lineMeaning
-returns-3 c = simp (sym (c .before .before .before .judge-line .ensures) ∙ ap lineMeaning (c .before .refusal .given .1), lt-ltb _ _ (c .before .before .before .before .if3 .taken), sym (c .before .before .before .before .before .before .is-skipped .ensures) ∙ c .before .before .before .before .before .if2 .left, le-ltb _ _ (c .before .before .before .before .before .before .before .if1 .left))
+returns-3 c =
+    let judged = c .before .before .before in
+    let d = judged .before .before in
+    let is = sym (judged .judge-line .ensures) ∙ ap lineMeaning (c .before .refusal .given .1) in
+    simp (is, lt-ltb _ _ (judged .before .if3 .taken), not-skipped d, short d)
 
 returns-4 : tie.Need-returns-4
 unfolding lineMeaning
-returns-4 c = simp (sym (c .before .before .before .judge-line .ensures) ∙ ap lineMeaning (c .before .item .given .1), lt-ltb _ _ (c .before .before .before .before .if3 .taken), sym (c .before .before .before .before .before .before .is-skipped .ensures) ∙ c .before .before .before .before .before .if2 .left, le-ltb _ _ (c .before .before .before .before .before .before .before .if1 .left))
+returns-4 c =
+    let judged = c .before .before .before in
+    let d = judged .before .before in
+    let is = sym (judged .judge-line .ensures) ∙ ap lineMeaning (c .before .item .given .1) in
+    simp (is, lt-ltb _ _ (judged .before .if3 .taken), not-skipped d, short d)
 
 returns-5 : tie.Need-returns-5
 unfolding numberOf
-returns-5 c = simp (le-ltb _ _ (c .if3 .left), sym (c .before .before .is-skipped .ensures) ∙ c .before .if2 .left, le-ltb _ _ (c .before .before .before .if1 .left))
+returns-5 c = simp (le-ltb _ _ (c .if3 .left), not-skipped (c .before), short (c .before))
 
 pub take-line-spec : {M : Type 1} → statement M
 take-line-spec =
