@@ -1,47 +1,55 @@
--- No second answer fits: for each public function, two answers (and two buffers) that both keep its contract are equal. Assumes nothing.
-use mathlib.Core.Path.{_≡_, refl, sym, _∙_, ap}
-use mathlib.Core.Bool.{cond}
-use mathlib.Core.List.{List}
-use Prim.Native.Nat.{ℕ}
+-- No second answer fits: for each public function, two answers (and two buffers) that both keep its contract are
+-- equal. Assumes nothing.
 use lib.Dec.{eqb}
 use lib.ListN.{take}
+use mathlib.Core.Bool.{cond}
+use mathlib.Core.List.{List}
+use mathlib.Core.Path.{_≡_, refl, sym, _∙_, ap}
+use Prim.Native.Nat.{ℕ}
+use Rattle.frame.specs.Answer.{meaningRead, meaningWritten, numberOf}
 use Rattle.frame.specs.declared.HostNumber.{HostNumber}
 use Rattle.frame.specs.declared.InstrumentNumber.{InstrumentNumber}
-use Rattle.frame.specs.Answer.{Refusal, badContent, shortLine, wrongCrc, wrongNumber, shortBuffer, ReadFrame, WrittenFrame, numberOf, meaningRead, meaningWritten}
-use Rattle.frame.specs.declared.ReadFrame.the-variants as Read
-use Rattle.frame.specs.declared.WrittenFrame.the-variants as Write
+use Rattle.frame.specs.declared.ReadFrame.the-variants as ReadFrame
+use Rattle.frame.specs.declared.ReadFrame.{ReadFrame}
+use Rattle.frame.specs.declared.Refusal.the-variants as Refusal
+use Rattle.frame.specs.declared.Refusal.{Refusal}
+use Rattle.frame.specs.declared.WrittenFrame.the-variants as WrittenFrame
+use Rattle.frame.specs.declared.WrittenFrame.{WrittenFrame}
 use Rattle.frame.specs.Frame.{Answer, refused, accepted, Written, leaves, read, write}
 
 -- ---- a number tells the refusal, and what an answer says tells the answer
 
 named : ℕ → Refusal
-named n = cond (eqb n 1) badContent (cond (eqb n 2) shortLine (cond (eqb n 3) wrongCrc (cond (eqb n 4) wrongNumber shortBuffer)))
+named n =
+    cond (eqb n 1) Refusal.BadContent
+    (cond (eqb n 2) Refusal.ShortLine
+    (cond (eqb n 3) Refusal.WrongCrc (cond (eqb n 4) Refusal.WrongNumber Refusal.ShortBuffer)))
 
 named-back : (r : Refusal) → named (numberOf r) ≡ r
 unfolding named numberOf
-named-back badContent = refl
-named-back shortLine = refl
-named-back wrongCrc = refl
-named-back wrongNumber = refl
-named-back shortBuffer = refl
+named-back Refusal.BadContent = refl
+named-back Refusal.ShortLine = refl
+named-back Refusal.WrongCrc = refl
+named-back Refusal.WrongNumber = refl
+named-back Refusal.ShortBuffer = refl
 
 read-of : Answer → ReadFrame
-read-of (accepted k n) = Read.Content k (record { 0 = n })
-read-of (refused n place) = Read.Refused (named n)
+read-of (accepted k n) = ReadFrame.Content k (record { 0 = n })
+read-of (refused n place) = ReadFrame.Refused (named n)
 
 read-back : (x : ReadFrame) → read-of (meaningRead x) ≡ x
 unfolding read-of meaningRead
-read-back (Read.Content k n) = refl
-read-back (Read.Refused r) = ap Read.Refused (named-back r)
+read-back (ReadFrame.Content k n) = refl
+read-back (ReadFrame.Refused r) = ap ReadFrame.Refused (named-back r)
 
 written-of : Answer → WrittenFrame
-written-of (accepted k n) = Write.Written k (record { 0 = n })
-written-of (refused n place) = Write.Refused (named n)
+written-of (accepted k n) = WrittenFrame.Written k (record { 0 = n })
+written-of (refused n place) = WrittenFrame.Refused (named n)
 
 written-back : (x : WrittenFrame) → written-of (meaningWritten x) ≡ x
 unfolding written-of meaningWritten
-written-back (Write.Written k n) = refl
-written-back (Write.Refused r) = ap Write.Refused (named-back r)
+written-back (WrittenFrame.Written k n) = refl
+written-back (WrittenFrame.Refused r) = ap WrittenFrame.Refused (named-back r)
 
 -- ---- the two counters: a number is its byte
 

@@ -1,12 +1,12 @@
 -- 01, Frames: a framed line, the reader and the writer. Assumes nothing.
+use lib.Dec.{ltb, eqb}
+use lib.ListN.{length, take}
 use mathlib.Core.Bool.{Bool, false, not, cond, _&&_, _||_}
 use mathlib.Core.List.{List, [], _∷_, _++_}
 use Prim.Native.Nat.{ℕ, _+_, _-_, _%_}
-use lib.Dec.{ltb, eqb}
-use lib.ListN.{length, take}
 use Rattle.crc.specs.Crc.{crc}
+use Rattle.text.specs.declared.Hex.the-variants as Hex
 use Rattle.text.specs.declared.Hex.{Hex}
-use Rattle.text.specs.declared.Hex.the-variants.{Number as number, Bad as bad}
 use Rattle.text.specs.Hex.{readHex, hex2, hex4}
 use Rattle.text.specs.Put.{put}
 
@@ -36,8 +36,8 @@ framed content n = numbered content n ++ hex4 (crc (numbered content n)) ++ 10 �
 
 -- digits that are upper hex and say a number
 abbrev pub says : Hex → ℕ → Bool
-says (number v) n = eqb v n
-says bad n = false
+says (Hex.Number v) n = eqb v n
+says Hex.Bad n = false
 
 -- k bytes of content are followed by two digits and four: "A newline inside is 3, a CRC digit not upper hex 3"
 unfoldable pub rightCrc : List ℕ → ℕ → Bool

@@ -23,7 +23,8 @@ const NEWLINE: u8 = b'\n';
 const FIRST: u8 = 0;
 
 // The number of a line that the host sends. It counts by itself: no number that was received becomes one. Its field is
-// private, so outside this crate a number is a first one, one that the writer handed back, or one made of a byte by name.
+// private, so outside this crate a number is a first one, one that the writer handed back, or one made of a byte by
+// name.
 pub struct HostNumber(u8);
 
 // The number of a line that the instrument sends; outside this crate likewise.
@@ -213,7 +214,8 @@ fn put_frame(buf: &mut [u8], content: &[u8], number: u8)
 
 // Writes a framed line with its newline at the start of a buffer, or leaves the buffer alone.
 pub fn write_frame(content: &[u8], number: HostNumber, buf: &mut [u8]) -> WrittenFrame
-    ensures { λ r. ⌜ leaves (meaningWritten r) (now (buf .exit)) ≡ write (now (content .entry)) (number .0) (now (buf .entry)) ⌝ }
+    ensures { λ r. ⌜ leaves (meaningWritten r) (now (buf .exit))
+        ≡ write (now (content .entry)) (number .0) (now (buf .entry)) ⌝ }
 {
     if unfit(content) {
         return WrittenFrame::Refused(Refusal::BadContent);

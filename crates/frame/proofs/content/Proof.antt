@@ -1,7 +1,8 @@
+-- `frame::content`: the front of the line, or all of it. Assumes nothing.
+use borrow.Author.Needs.{needs}
+use lib.Seq.{length-take-le, take-all}
 use mathlib.Core.Path.{sym}
 use native.Mathlib.Omega.{arith}
-use lib.Seq.{length-take-le, take-all}
-use borrow.Author.Needs.{needs}
 use Rattle.frame.proofs.content.Statement.{statement}
 use Rattle.frame.proofs.content.Tie as tie
 

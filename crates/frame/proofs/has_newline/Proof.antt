@@ -1,22 +1,25 @@
-use Prim.Native.Nat.{_≤_, _-_}
-use mathlib.Core.Path.{_≡_, refl}
-use mathlib.Core.Bool.{_||_}
-use mathlib.Core.Logic.{⊎-elim}
-use lib.ListN.{length, drop}
+-- `frame::has_newline` goes to the end, whatever it finds. Assumes nothing.
 use borrow.Author.Needs.{needs}
-use Rattle.frame.specs.Frame.{contains}
-use Rattle.frame.proofs.Newline.{again-found, again-other, end}
+use lib.ListN.{length}
+use mathlib.Core.Logic.{⊎-elim}
+use mathlib.Core.Path.{refl}
+use Prim.Native.Nat.{_-_}
 use Rattle.frame.proofs.has_newline.Statement.{statement}
 use Rattle.frame.proofs.has_newline.Tie as tie
+use Rattle.frame.proofs.Newline.{Seeking, again-found, again-other, end}
+
+-- ---- the loop
 
 abbrev Inv-loop : tie.InvT-loop
-Inv-loop s found₀ i₀ found i = (i ≤ length s) × ((found || contains 10 (drop i s)) ≡ contains 10 s)
+Inv-loop s found₀ i₀ found i = Seeking s found i
 
 abbrev μ-loop : tie.MeasureT-loop
 μ-loop s found₀ i₀ found i = length s - i
 
+-- ---- the needs
+
 loop-holds : tie.Need-loop-holds Inv-loop μ-loop
-loop-holds c = (search needs, refl)
+loop-holds c = record { within = search needs; same = refl }
 
 shared-slice-read-if1 : tie.Need-shared-slice-read-if1 Inv-loop μ-loop
 shared-slice-read-if1 c = search needs
@@ -28,16 +31,15 @@ loop-less : tie.Need-loop-less Inv-loop μ-loop
 loop-less c = search needs
 
 loop-again : tie.Need-loop-again Inv-loop μ-loop
-loop-again c = (
-  search needs,
-  ⊎-elim
-      (λ w. rw (w .1) (again-found (c .before .before .before .before .args .s .now) (c .before .before .before .loop .i) (c .before .before .before .loop .found) (c .before .before .loop-test .taken) (w .0 .taken) (c .before .before .before .loop .inv .1)))
-      (λ w. rw (w .1) (again-other (c .before .before .before .before .args .s .now) (c .before .before .before .loop .i) (c .before .before .before .loop .found) (c .before .before .loop-test .taken) (w .0 .left) (c .before .before .before .loop .inv .1)))
-      (c .if1 .came),
-)
+loop-again c =
+    let t = c .before .before in
+    ⊎-elim
+    (λ w. rw (w .1) (again-found (t .before .loop .inv) (t .loop-test .taken) (w .0 .taken)))
+    (λ w. rw (w .1) (again-other (t .before .loop .inv) (t .loop-test .taken) (w .0 .left)))
+    (c .if1 .came)
 
 returns : tie.Need-returns Inv-loop μ-loop
-returns c = end _ _ _ (c .loop-test .left) (c .before .loop .inv .1)
+returns c = end (c .before .loop .inv) (c .loop-test .left)
 
 pub has-newline-spec : {M : Type 1} → statement M
 has-newline-spec =

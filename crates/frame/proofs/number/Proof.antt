@@ -1,8 +1,9 @@
-use mathlib.Core.Path.{sym, ap}
-use Rattle.frame.specs.Answer.{numberOf}
+-- `frame::number`, refusal by refusal. Assumes nothing.
 use borrow.Author.Needs.{needs}
+use mathlib.Core.Path.{sym, ap}
 use Rattle.frame.proofs.number.Statement.{statement}
 use Rattle.frame.proofs.number.Tie as tie
+use Rattle.frame.specs.Answer.{numberOf}
 
 enum-told : tie.Need-enum-told
 enum-told c = search needs

@@ -1,11 +1,32 @@
-use mathlib.Core.Path.{sym}
-use native.Mathlib.Omega.{arith}
+-- `frame::put_frame`: the content, the number's digits, the CRC's, the newline. Assumes nothing.
+use borrow.Author.Needs.{needs}
 use lib.ListN.{length-set}
 use lib.Seq.{length-take-le}
-use Rattle.frame.proofs.Writing.{whole}
-use borrow.Author.Needs.{needs}
+use mathlib.Core.Path.{sym}
+use native.Mathlib.Omega.{arith}
 use Rattle.frame.proofs.put_frame.Statement.{statement}
 use Rattle.frame.proofs.put_frame.Tie as tie
+use Rattle.frame.proofs.Writing.{whole}
+
+-- ---- the places: each step's buffer is what the next one finds
+
+module _ (c : tie.After-put-bytes) where
+  abbrev start : tie.Start
+  start = c .before .before .before .before
+
+module _ (c : tie.After-put-hex2) where
+  abbrev bytes : tie.After-put-bytes
+  bytes = c .before .before .before .before
+
+module _ (c : tie.After-crc16) where
+  abbrev number : tie.After-put-hex2
+  number = c .before .before .before .before
+
+module _ (c : tie.After-put-hex4) where
+  abbrev sum : tie.After-crc16
+  sum = c .before .before
+
+-- ---- the needs
 
 put-bytes-requires : tie.Need-put-bytes-requires
 put-bytes-requires c κs = search needs
@@ -38,7 +59,18 @@ same-length : tie.Need-same-length
 same-length c = simp length-set (omega arith)
 
 returns : tie.Need-returns
-returns c = whole (c .before .before .before .before .before .before .before .before .before .before .before .before .before .before .before .before .args .buf .now) (c .before .before .before .before .before .before .before .before .before .before .before .before .before .before .before .before .args .content .now) (c .before .before .before .before .before .before .before .before .before .before .before .before .before .before .before .before .args .number) (c .before .before .before .before .before .before .before .before .before .before .before .before .before .before .before .before .pre) _ _ _ _ (c .before .before .before .before .before .before .before .before .before .before .before .before .put-bytes .ensures) (c .before .before .before .before .before .before .before .before .put-hex2 .ensures) (c .before .before .before .before .crc16 .ensures) (c .before .before .put-hex4 .ensures)
+returns c =
+    let digits = c .before .before in
+    let k = sum digits in
+    let n = number k in
+    whole
+    (record {
+      room = start (bytes n) .pre;
+      bytes = bytes n .put-bytes .ensures;
+      number = n .put-hex2 .ensures;
+      sum = k .crc16 .ensures;
+      digits = digits .put-hex4 .ensures;
+    })
 
 pub put-frame-spec : {M : Type 1} → statement M
 put-frame-spec =

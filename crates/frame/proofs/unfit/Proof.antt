@@ -1,8 +1,9 @@
-use borrow.Author.Tests.{lt-ltb, le-ltb}
-use Rattle.frame.specs.Frame.{unfit}
+-- `frame::unfit`: too long, or with a newline in it. Assumes nothing.
 use borrow.Author.Needs.{needs}
+use borrow.Author.Tests.{lt-ltb, le-ltb}
 use Rattle.frame.proofs.unfit.Statement.{statement}
 use Rattle.frame.proofs.unfit.Tie as tie
+use Rattle.frame.specs.Frame.{unfit}
 
 returns : tie.Need-returns
 unfolding unfit

@@ -1,7 +1,8 @@
-use Rattle.frame.specs.Frame.{next}
+-- `frame::InstrumentNumber::next` counts up by one, FF to 00. Assumes nothing.
 use borrow.Author.Needs.{needs}
 use Rattle.frame.proofs.InstrumentNumber.next.Statement.{statement}
 use Rattle.frame.proofs.InstrumentNumber.next.Tie as tie
+use Rattle.frame.specs.Frame.{next}
 
 wrapping-add-u8-requires : tie.Need-wrapping-add-u8-requires
 wrapping-add-u8-requires c κs = search needs
