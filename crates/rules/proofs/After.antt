@@ -1,43 +1,89 @@
--- What holds after an item, from the code's pieces. Assumes nothing.
-use Prim.Native.Nat.{_+_, _-_, _≤_, _<_}
-use mathlib.Core.Path.{_≡_}
-use mathlib.Core.Bool.{Bool, false}
-use mathlib.Core.List.{List}
-use lib.ListN.{length, getD, set}
-use Rattle.rules.specs.Words.{Sort, Head, opens, Branch, Item, Act, act, Give}
-use Rattle.table.specs.Item.{sortOf, isElse}
-use Rattle.table.specs.Uses.{Names, gives, headGives}
-use Rattle.rules.specs.Check.{Box, everyEnd, State, both, everything, put, afterBox, branched, closed, after}
-use Rattle.rules.specs.Code.{Standing, noBox, topFirst, stateOf, afterWrites}
-use Rattle.rules.proofs.Boxes.{innermost, push, renew}
+-- What holds after an item, whatever boxes are around. Assumes nothing.
+use Prim.Native.Nat.{ℕ, zero, suc}
+use mathlib.Core.Path.{_≡_, refl, sym, _∙_, ap}
+use mathlib.Core.Bool.{Bool, true, false, _||_}
+use mathlib.Core.List.{List, []}
+use native.Mathlib.Omega.{arith}
+use lib.ListN.{length}
+use Rattle.rules.specs.Words.{Item, act, pack, opens, branch, closes, breakloop, tag, endif, endloop}
+use Rattle.rules.specs.Words.{pckStart, pckAdd, pckEnd}
+use Rattle.table.specs.Item.{isLoop, isSweep}
+use Rattle.table.specs.Uses.{Names, gives}
+use Rattle.sets.specs.Names.{either, put, namesOf}
+use Rattle.rules.specs.Check.{Box, State, begin, after, anyBox}
+use Rattle.rules.specs.Code.{Form, Around, Held, Holds, holdsOf, boxOf, boxesIn, stateOf, stateAfter, Boxed}
+use Rattle.rules.specs.Code.{plainForm, isOpen, isClose, sortIn, markIn, moved, Deeper, entered, Outside, Starts}
+use Rattle.rules.specs.declared.briefs.Form.the-variants as Form
+use Rattle.rules.proofs.Forms.{no, formed, head-sort}
 
--- the same package and tag, with other names and boxes
-abbrev holding : Standing → Names → List Box → State
-holding s sure boxes = record { sure = sure; boxes = boxes; packed = s .packed; tagged = s .tagged }
+module _ (a : Around) (h : Holds) (bs : List Box) where
+  -- an item that opens no box
+  pub moved-is : (d : ℕ) → a .depth ≡ d → (x : Item) (writes : Names) → isOpen (plainForm x) ≡ false
+      → markIn a h (plainForm x) ≡ false → either (h .sure) writes ≡ put (h .sure) (gives x)
+      → stateAfter (isClose (plainForm x)) a (moved a h writes (plainForm x)) bs ≡ after (stateOf a h bs) x
+  unfolding markIn moved
+  moved-is d e (act y) w o m p = rw p
+  moved-is d e (pack pckStart) w o m p = refl
+  moved-is d e (pack (pckAdd v)) w o m p = refl
+  moved-is d e (pack pckEnd) w o m p = refl
+  moved-is d e (opens y) w o m p = no (sym (formed (opens y) .opens') ∙ o)
+  moved-is zero e (branch y) w o m p = no (rw e at m)
+  moved-is (suc d) e (branch y) w o m p = rw e
+  moved-is zero e (closes endif) w o m p = no (rw e at m)
+  moved-is (suc d) e (closes endif) w o m p = rw e
+  moved-is zero e (closes endloop) w o m p = no (rw e at m)
+  moved-is (suc d) e (closes endloop) w o m p = rw e
+  moved-is d e breakloop w o m p = refl
+  moved-is d e tag w o m p = refl
 
-module _ (s : Standing) where
-  abbrev top : Box
-  top = getD (s .boxes) (s .depth - 1) noBox
+-- a closing mark in its place is in a box
+pub close-inside : (a : Around) (h : Holds) (f : Form) → isClose f ≡ true → markIn a h f ≡ false → a .depth ≡ 0 → ⊥
+unfolding markIn
+close-inside a h Form.Wrong c m e = no (sym c)
+close-inside a h Form.Act c m e = no (sym c)
+close-inside a h (Form.Pack s) c m e = no (sym c)
+close-inside a h (Form.Open s) c m e = no (sym c)
+close-inside a h Form.Twice c m e = no (sym c)
+close-inside a h (Form.Branch s) c m e = no (sym c)
+close-inside a h (Form.Close endif) c m e = no (rw e at m)
+close-inside a h (Form.Close endloop) c m e = no (rw e at m)
+close-inside a h Form.Break c m e = no (sym c)
+close-inside a h Form.Tag c m e = no (sym c)
 
-  pub open-is : (h : Head) (sort : Sort) (sure : Names) → s .depth < length (s .boxes)
-      → sort ≡ sortOf h → sure ≡ put (s .sure) (headGives h)
-      → holding s sure (topFirst (set (s .boxes) (s .depth) (record { sort = sort; before = s .sure; «every_end» = everything; «else_seen» = false })) (s .depth + 1))
-      ≡ after (stateOf s) (opens h)
-  open-is h sort sure k e f = rw (push (s .boxes) (s .depth) (record { sort = sort; before = s .sure; «every_end» = everything; «else_seen» = false }) k, e, f)
+-- an item that opens a box
+module _ (a : Around) (h : Held) (bs : List Box) where
+  abbrev within : List Box
+  within = boxesIn (a .depth) (boxOf a (holdsOf h)) bs
 
-  pub branch-is : (b : Branch) (all : Names) (seen : Bool) → (s .depth ≡ 0 → ⊥) → s .depth ≤ length (s .boxes)
-      → all ≡ both (everyEnd top) (s .sure) → seen ≡ isElse b
-      → holding s (top .before) (topFirst (set (s .boxes) (s .depth - 1) (record { sort = top .sort; before = top .before; «every_end» = all; «else_seen» = seen })) (s .depth))
-      ≡ branched b (stateOf s) (stateOf s .boxes)
-  branch-is b all seen h k e f =
-      rw (renew (s .boxes) (s .depth) (record { sort = top .sort; before = top .before; «every_end» = all; «else_seen» = seen }) h k, innermost (s .boxes) (s .depth) h, e, f)
+  pub deeper-is : (x : Item) (r : Around) (q : Holds) (writes : Names) → Deeper a h (plainForm x) r
+      → isOpen (plainForm x) ≡ true → q ≡ entered (holdsOf h) writes
+      → either (namesOf (h .sure)) writes ≡ put (namesOf (h .sure)) (gives x)
+      → stateOf r q within ≡ after (stateOf a (holdsOf h) bs) x
+  deeper-is (act y) r q w d o e p = no (sym o)
+  deeper-is (pack y) r q w d o e p = no (sym o)
+  deeper-is (opens y) r q w d o e p = rw (d .depth, d .sort ∙ head-sort y, d .before, e, p)
+  deeper-is (branch y) r q w d o e p = no (sym o)
+  deeper-is (closes y) r q w d o e p = no (sym o)
+  deeper-is breakloop r q w d o e p = no (sym o)
+  deeper-is tag r q w d o e p = no (sym o)
 
-  pub close-is : (sure : Names) → (s .depth ≡ 0 → ⊥) → sure ≡ afterBox (top .sort) top (s .sure)
-      → holding s sure (topFirst (s .boxes) (s .depth - 1)) ≡ closed (stateOf s) (stateOf s .boxes)
-  close-is sure h e = rw (innermost (s .boxes) (s .depth) h, e)
+  pub deeper-boxed : (f : Form) (r : Around) → Deeper a h f r → Boxed a bs → Boxed r within
+  deeper-boxed f r d b = record {
+    count = λ g. rw (d .depth) (ap suc (b .count (holdsOf h)));
+    looped = λ g. rw (d .depth, d .looped, d .sort) (ap (λ (q : Bool). isLoop (sortIn f) || q) (b .looped (holdsOf h)));
+    swept = λ g. rw (d .depth, d .swept, d .sort) (ap (λ (q : Bool). isSweep (sortIn f) || q) (b .swept (holdsOf h)));
+    none = λ z. absurd (omega (arith, d .depth));
+  }
 
-pub act-is : (s : State) (x : Item) {a : Act} (gs : List Give) → x ≡ act a → gs ≡ gives x → afterWrites s gs ≡ after s x
-act-is s x gs e f = rw (f, e)
+-- ---- the start
 
-pub same-item : (s : State) {x y : Item} → x ≡ y → after s y ≡ after s x
-same-item s e = rw e
+pub no-boxes : (a : Around) → Outside a → Boxed a []
+no-boxes a o = record {
+  count = λ h. rw (o .depth);
+  looped = λ h. rw (o .depth) (o .looped);
+  swept = λ h. rw (o .depth) (o .swept);
+  none = λ z. refl;
+}
+
+pub begins : (a : Around) (h : Held) → Outside a → Starts h → stateOf a (holdsOf h) [] ≡ begin
+begins a h o s = rw (o .depth, s .sure, s .packed, s .tagged)

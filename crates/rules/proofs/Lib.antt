@@ -1,8 +1,9 @@
-pub mod Names
-pub mod Boxes
+pub mod Sorting
 pub mod Writes
-pub mod After
+pub mod Forms
+pub mod Noting
 pub mod Rows
+pub mod After
 pub mod Way
 pub mod Tight
 pub mod Pairs

@@ -8,7 +8,8 @@ use lib.ListN.{length}
 use Rattle.rules.specs.Words.{Sort, Head, Branch, Item, act, pack, opens, branch, closes, breakloop, tag}
 use Rattle.table.specs.Item.{sortOf, isElse}
 use Rattle.table.specs.Uses.{Names, actGives, headGives, packs}
-use Rattle.rules.specs.Check.{Box as Plain, State, nothing, everything, both, put, afterBox}
+use Rattle.sets.specs.Names.{nothing, everything, both, put}
+use Rattle.rules.specs.Check.{Box as Plain, State, afterBox}
 use Rattle.rules.specs.Check.{after as afterPlain}
 
 pub record Box : Type 0 where
@@ -31,7 +32,7 @@ atStart = record { sure = nothing; boxes = []; packed = false; tagged = false }
 -- ---- without the places
 
 abbrev pub plain : Box → Plain
-plain b = record { sort = b .sort; before = b .before; «every_end» = b .everyEnd; «else_seen» = b .elseSeen }
+plain b = record { sort = b .sort; before = b .before; everyEnd = b .everyEnd; elseSeen = b .elseSeen }
 
 abbrev pub plains : List Box → List Plain
 plains [] = []

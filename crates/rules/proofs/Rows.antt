@@ -1,23 +1,137 @@
--- Rows of tests. Assumes nothing.
-use Prim.Native.Nat.{ℕ, _<_}
-use mathlib.Core.Path.{_≡_, refl}
-use mathlib.Core.Bool.{Bool, true, false, _&&_, cond}
+-- Rows of tests: those of what the code holds are those of the definition, whatever boxes are around. Assumes nothing.
+use Prim.Native.Nat.{ℕ, zero, suc, _<_}
+use mathlib.Core.Path.{_≡_, refl, sym, _∙_, ap, ap₂}
+use mathlib.Core.Bool.{Bool, true, false, not, _&&_, _||_, cond}
 use mathlib.Core.List.{List, [], _∷_}
 use native.Mathlib.Omega.{arith}
-use lib.Dec.{leb}
-use borrow.Author.Tests.{leb-false}
-use Rattle.rules.specs.Words.{Item, opens, Head}
-use Rattle.table.specs.Item.{isOpen}
-use Rattle.table.specs.Uses.{Kinds, lowest}
-use Rattle.rules.specs.Check.{State, refusals, refusalsAtEnd}
-use Rattle.rules.specs.Code.{Standing, stateOf, rowsOf}
-use Rattle.rules.proofs.Boxes.{length-top}
+use lib.Dec.{leb, eqb}
+use lib.ListN.{length}
+use borrow.Author.Tests.{ne-eqb, leb-false}
+use Rattle.rules.specs.Words.{Item, act, pack, opens, branch, closes, breakloop, tag, endif, endloop}
+use Rattle.rules.specs.Words.{Head, if', loop, sweep, sweepBox}
+use Rattle.table.specs.Item as Of
+use Rattle.table.specs.Item.{isLoop}
+use Rattle.table.specs.Uses.{Kinds, kindAt, Names, has, missing, lowest, uses, gives}
+use Rattle.sets.specs.Names.{outside, namesOf}
+use Rattle.rules.specs.Check.{Box, State, refusals, refusalsAtEnd, misplaced, baseOf, anyBox, isEmpty}
+use Rattle.rules.specs.Code.{Form, Around, Held, Holds, holdsOf, boxOf, boxesIn, stateOf, Boxed}
+use Rattle.rules.specs.Code.{headForm, plainForm, formBy, wrongBoth, Noted}
+use Rattle.rules.specs.Code.{isWrong, isOpen, isBranch, inIf, baseIn, markIn, rowsIn, rowsAtEnd}
+use Rattle.rules.specs.declared.briefs.Form.the-variants as Form
+use Rattle.rules.proofs.Forms.{no, formed}
 
 pub same-rows : {a a' b b' c c' d d' e e' f f' g g' h h' : Bool}
     → a ≡ a' → b ≡ b' → c ≡ c' → d ≡ d' → e ≡ e' → f ≡ f' → g ≡ g' → h ≡ h'
-    → rowsOf (record { kinds = a; unwritten = b; mark = c; ninth = d; order = e; tag = f; twice = g; nested = h })
-    ≡ rowsOf (record { kinds = a'; unwritten = b'; mark = c'; ninth = d'; order = e'; tag = f'; twice = g'; nested = h' })
+    → _≡_ {A = List (ℕ × Bool)}
+    ((19, a) ∷ (20, b) ∷ (21, c) ∷ (22, d) ∷ (23, e) ∷ (24, f) ∷ (25, g) ∷ (26, h) ∷ [])
+    ((19, a') ∷ (20, b') ∷ (21, c') ∷ (22, d') ∷ (23, e') ∷ (24, f') ∷ (25, g') ∷ (26, h') ∷ [])
 same-rows p q r s t u v w = rw (p, q, r, s, t, u, v, w)
+
+-- ---- one test at a time; the depth is cased on
+
+or-false : (b : Bool) → (b || false) ≡ b
+or-false true = refl
+or-false false = refl
+
+swap : (q : Bool) (x y : Names) → cond (not q) x y ≡ cond q y x
+swap true x y = refl
+swap false x y = refl
+
+some-open : (d : ℕ) → eqb (suc d) 0 ≡ false
+some-open d = ne-eqb (suc d) 0 (λ e. omega arith)
+
+base-by : (d : ℕ) (p : Bool) (b : Box) (sure : Names) (bs : List Box)
+    → cond (p && cond (eqb d 0) false (not (isLoop (b .sort)))) (b .before) sure ≡ baseOf p sure (boxesIn d b bs)
+base-by d false b sure bs = refl
+base-by zero true b sure bs = refl
+base-by (suc d) true b sure bs = rw (some-open d) (swap (isLoop (b .sort)) (b .before) sure)
+
+open-in : (d : ℕ) (b : Box) (bs : List Box) → not (eqb d 0) ≡ not (isEmpty (boxesIn d b bs))
+open-in zero b bs = refl
+open-in (suc d) b bs = rw (some-open d)
+
+module _ (a : Around) (h : Holds) (bs : List Box) where
+  head-in : (y : Head) → markIn a h (headForm y) ≡ false
+  unfolding markIn
+  head-in (if' c) = refl
+  head-in (loop c) = refl
+  head-in (sweep w) = by (eqb (w .potential) (w .current))
+    where
+      by : (b : Bool) → markIn a h (cond b Form.Twice (Form.Open sweepBox)) ≡ false
+      by true = refl
+      by false = refl
+
+  mark-in : (d : ℕ) → a .depth ≡ d → a .looped ≡ anyBox isLoop (boxesIn d (boxOf a h) bs) → (x : Item)
+      → markIn a h (plainForm x) ≡ misplaced x (boxesIn d (boxOf a h) bs)
+  unfolding markIn
+  mark-in zero e b (act y) = refl
+  mark-in (suc d) e b (act y) = refl
+  mark-in zero e b (pack y) = refl
+  mark-in (suc d) e b (pack y) = refl
+  mark-in zero e b (opens y) = head-in y
+  mark-in (suc d) e b (opens y) = head-in y
+  mark-in zero e b (branch y) = rw e
+  mark-in (suc d) e b (branch y) = rw (e, some-open d) (sym (or-false _))
+  mark-in zero e b (closes endif) = rw e
+  mark-in (suc d) e b (closes endif) = rw (e, some-open d) (sym (or-false _ ∙ or-false _))
+  mark-in zero e b (closes endloop) = rw e
+  mark-in (suc d) e b (closes endloop) = rw (e, some-open d) (sym (or-false _ ∙ or-false _))
+  mark-in zero e b breakloop = ap not b
+  mark-in (suc d) e b breakloop = ap not b
+  mark-in zero e b tag = refl
+  mark-in (suc d) e b tag = refl
+
+-- ---- the rows, whatever boxes are around
+
+module _ {k : Kinds} {x : Item} {reads writes : ℕ} {f : Form} (n : Noted k x reads writes f) (a : Around) (h : Held)
+  where
+    -- a base is what held before the box, or what is surely written
+    missed-in : (g : Form)
+        → outside (namesOf reads) (baseIn a (holdsOf h) g) ≡ missing (has (baseIn a (holdsOf h) g)) (uses x)
+    missed-in g = by (isBranch g && inIf a)
+      where
+        by : (b : Bool) → outside (namesOf reads) (cond b (namesOf (a .before)) (namesOf (h .sure)))
+            ≡ missing (has (cond b (namesOf (a .before)) (namesOf (h .sure)))) (uses x)
+        by true = n .missed (a .before)
+        by false = n .missed (h .sure)
+
+    module _ (bs : List Box) (b : Boxed a bs) where
+      abbrev within : List Box
+      within = boxesIn (a .depth) (boxOf a (holdsOf h)) bs
+
+      base-in : (g : Form) → isBranch g ≡ Of.isBranch x
+          → baseIn a (holdsOf h) g ≡ baseOf (Of.isBranch x) (namesOf (h .sure)) within
+      base-in g e = rw e (base-by (a .depth) (Of.isBranch x) (boxOf a (holdsOf h)) (namesOf (h .sure)) bs)
+
+      plain-rows : wrongBoth (kindAt k) (uses x) (gives x) ≡ false
+          → rowsIn a (holdsOf h) (namesOf reads) (plainForm x) ≡ refusals k (stateOf a (holdsOf h) bs) x
+      plain-rows e =
+          let g = formed x in
+          same-rows
+          (g .right ∙ sym e)
+          (missed-in (plainForm x) ∙ ap (λ (s : Names). missing (has s) (uses x)) (base-in (plainForm x) (g .branches)))
+          (mark-in a (holdsOf h) bs (a .depth) refl (b .looped (holdsOf h)) x)
+          (ap₂ (λ (p : Bool) (m : ℕ). p && leb 8 m) (g .opens') (sym (b .count (holdsOf h))))
+          (g .order (h .packed))
+          (ap₂ (λ (p q : Bool). p && (h .tagged || q)) (g .tags) (open-in (a .depth) (boxOf a (holdsOf h)) bs))
+          (g .twice)
+          (ap₂ (λ (p q : Bool). p && q) (g .sweeps) (b .swept (holdsOf h)))
+
+      pub judged-in : lowest (rowsIn a (holdsOf h) (namesOf reads) f) ≡ lowest (refusals k (stateOf a (holdsOf h) bs) x)
+      judged-in =
+          ap (λ (g : Form). lowest (rowsIn a (holdsOf h) (namesOf reads) g)) (n .form)
+          ∙ by (wrongBoth (kindAt k) (uses x) (gives x)) refl
+        where
+          by : (q : Bool) → wrongBoth (kindAt k) (uses x) (gives x) ≡ q
+              → lowest (rowsIn a (holdsOf h) (namesOf reads) (formBy q x)) ≡ lowest (refusals k (stateOf a (holdsOf h) bs) x)
+          by true e = rw e
+          by false e = ap lowest (plain-rows e)
+
+pub end-in : (a : Around) (h : Holds) (bs : List Box)
+    → rowsAtEnd (a .depth) (h .packed) ≡ refusalsAtEnd (stateOf a h bs)
+end-in a h bs = ap (λ (q : Bool). (21, q) ∷ (23, h .packed) ∷ []) (open-in (a .depth) (boxOf a h) bs)
+
+-- ---- no number is given: no rule is broken
 
 -- every test says false
 abbrev pub Quiet : List (ℕ × Bool) → Type 0
@@ -37,18 +151,45 @@ skip n false r h e = (refl, e)
 
 quiet : (rs : List (ℕ × Bool)) → Numbered rs → lowest rs ≡ 0 → Quiet rs
 quiet [] h e = tt
-quiet (r ∷ rs) h e = (skip (r .0) (r .1) (lowest rs) (h .0) e .0, quiet rs (h .1) (skip (r .0) (r .1) (lowest rs) (h .0) e .1))
+quiet (r ∷ rs) h e =
+    let d = skip (r .0) (r .1) (lowest rs) (h .0) e in
+    (d .0, quiet rs (h .1) (d .1))
 
--- where no number is given, no rule is broken
+-- whatever the tests say
+eight : Numbered
+    ((19, false) ∷ (20, false) ∷ (21, false) ∷ (22, false) ∷ (23, false) ∷ (24, false) ∷ (25, false) ∷ (26, false) ∷ [])
+eight = (
+  omega arith,
+  (omega arith, (omega arith, (omega arith, (omega arith, (omega arith, (omega arith, (omega arith, tt))))))),
+)
+
 pub no-refusal : (k : Kinds) (s : State) (x : Item) → lowest (refusals k s x) ≡ 0 → Quiet (refusals k s x)
-no-refusal k s x e =
-    quiet (refusals k s x) (omega arith, (omega arith, (omega arith, (omega arith, (omega arith, (omega arith, (omega arith, (omega arith, tt)))))))) e
+no-refusal k s x e = quiet (refusals k s x) eight e
 
 pub no-refusal-at-end : (s : State) → lowest (refusalsAtEnd s) ≡ 0 → Quiet (refusalsAtEnd s)
 no-refusal-at-end s e = quiet (refusalsAtEnd s) (omega arith, (omega arith, tt)) e
 
-pub not-ninth : (k : Kinds) (s : Standing) (x : Item) → lowest (refusals k (stateOf s) x) ≡ 0 → (isOpen x && leb 8 (s .depth)) ≡ false
-not-ninth k s x e = rw (length-top (s .boxes) (s .depth)) at (no-refusal k (stateOf s) x e .1 .1 .1 .0)
+module _ (a : Around) (h : Holds) (reads : Names) (f : Form) (e : lowest (rowsIn a h reads f) ≡ 0) where
+  all-quiet : Quiet (rowsIn a h reads f)
+  all-quiet = quiet (rowsIn a h reads f) eight e
 
-pub room : (x : Item) (d : ℕ) {h : Head} → x ≡ opens h → (isOpen x && leb 8 d) ≡ false → d < 8
-room x d e f = leb-false 8 d (rw e at f)
+  pub right-form : isWrong f ≡ false
+  right-form = all-quiet .0
+
+  pub no-mark : markIn a h f ≡ false
+  no-mark = all-quiet .1 .1 .0
+
+  pub room : isOpen f ≡ true → a .depth < 8
+  room o = leb-false 8 (a .depth) (rw o at (all-quiet .1 .1 .1 .0))
+
+-- at the end, with nothing found, no box is around
+pub no-box-left : (a : Around) (bs : List Box) (sure : Names) (p t : Bool) → Boxed a bs
+    → lowest (rowsAtEnd (a .depth) p) ≡ 0
+    → lowest (refusalsAtEnd (record { sure = sure; boxes = bs; packed = p; tagged = t })) ≡ 0
+no-box-left a bs sure p t b z =
+    let q = quiet (rowsAtEnd (a .depth) p) (omega arith, (omega arith, tt)) z in
+    rw (b .none (outermost (a .depth) (q .0)), q .1 .0)
+  where
+    outermost : (d : ℕ) → not (eqb d 0) ≡ false → d ≡ 0
+    outermost zero e = refl
+    outermost (suc d) e = no (sym (ap not (some-open d)) ∙ e)

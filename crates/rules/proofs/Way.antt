@@ -1,132 +1,239 @@
 -- The checker on its way. Assumes nothing.
 use Prim.Native.Nat.{ℕ, zero, suc, _+_, _≤_, _<_}
-use mathlib.Core.Path.{_≡_, refl, sym, _∙_}
-use mathlib.Core.Bool.{Bool, true, false, _&&_}
-use mathlib.Core.List.{List}
+use mathlib.Core.Path.{_≡_, refl, sym, _∙_, ap, ap₂, subst}
+use mathlib.Core.Bool.{Bool, true, false}
+use mathlib.Core.List.{List, []}
 use native.Mathlib.Omega.{arith}
 use native.Mathlib.Numerals.{add-one}
-use lib.ListN.{length, getD, drop, replicate}
-use borrow.Author.Tests.{leb-true}
-use Rattle.rules.specs.Words.{Item, Slot, Script, unknown}
-use Rattle.table.specs.Uses.{Kinds, lowest}
-use Rattle.table.specs.Shape.{noSlot, itemsIn, itemsOf, inShape}
-use Rattle.table.proofs.Items.{drop-items, no-items}
-use Rattle.rules.specs.Check.{State, begin, kindsOf, refusals, refusalsAtEnd, after, Verdict, accepted, refused, orGo, walk, lineOf, atLine, verdict}
-use Rattle.rules.specs.Code.{Standing, stateOf}
-use Rattle.rules.specs.Verdict.{Rule, Shape, Kinds as WrongKinds, Unwritten, Mark, Ninth, Package, Tag, SameName, Nested, Finding, Nothing, Broken, numberOf, found}
-use Rattle.rules.specs.Code.{Walk, restOf, comeTo, outcome, Taken, Went, Took}
+use lib.ListN.{drop, getD, replicate}
+use Rattle.rules.specs.Words.{Item, Script, unknown}
+use Rattle.table.specs.Uses.{Kinds, kindAt, uses, gives, lowest}
+use Rattle.table.specs.Shape.{itemsOf, inShape}
+use Rattle.sets.specs.Names.{namesOf}
+use Rattle.rules.specs.Check.{Box, State, begin, kindsOf, refusals, refusalsAtEnd, after, Verdict, accepted}
+use Rattle.rules.specs.Check.{refused, orGo, walk, lineOf, atLine, verdict}
+use Rattle.rules.specs.Verdict.{Rule, Finding, Nothing, Broken, numberOf, found}
+use Rattle.rules.specs.Code.{Form, Around, Held, Holds, holdsOf, boxOf, boxesIn, stateOf, stateAfter, Boxed}
+use Rattle.rules.specs.Code.{Notes, NotedAt, Told, isOpen, isClose, rowsIn, rowsAtEnd, moved, Deeper, entered}
+use Rattle.rules.specs.Code.{Outside, Starts, Walk, Out, restOf, comeTo, comeOut, outcome, outState}
+use Rattle.rules.specs.Code.{backBy, leftBy, Went, Took, plainForm, wrongBoth, markIn}
+use Rattle.rules.specs.declared.Rule.the-variants as Rule
+use Rattle.rules.specs.declared.briefs.Form.the-variants as Form
+use Rattle.rules.proofs.Forms.{no, plain-form}
+use Rattle.rules.proofs.Rows.{judged-in, end-in, no-mark, right-form, no-box-left}
+use Rattle.rules.proofs.After.{moved-is, close-inside, deeper-is, deeper-boxed, no-boxes, begins}
 
-pub not-nothing : {X : Type 0} {f : Finding} {r : Rule} → f ≡ Broken r → f ≡ Nothing → X
-not-nothing {f = f} e n =
-    let z : _≡_ {A = ℕ} 0 1 = cc in
-    absurd (never z)
-  where
-    never : _≡_ {A = ℕ} 0 1 → ⊥
-    never z = omega arith
-
-module _ (n : ℕ) (ss : List Slot) (k : Kinds) (i : ℕ) (st : State) where
-  -- one item further, the verdict to come is the same
-  rest-next : i < n → n ≤ length ss
-      → walk k i st (drop i (itemsIn n ss))
-      ≡ orGo (lowest (refusals k st ((getD ss i noSlot) .item))) i (walk k (i + 1) (after st ((getD ss i noSlot) .item)) (drop (i + 1) (itemsIn n ss)))
-  rest-next h l = rw (drop-items n i ss h l, add-one)
-
-  rest-end : n ≤ i → walk k i st (drop i (itemsIn n ss)) ≡ orGo (lowest (refusalsAtEnd st)) i accepted
-  rest-end h = rw (no-items n i ss h)
-
-orGo-same : (k i : ℕ) (u v : Verdict) → (k ≡ 0 → ⊥) → orGo k i u ≡ orGo k i v
-orGo-same zero i u v h = absurd (h refl)
-orGo-same (suc k) i u v h = refl
+-- ---- a finding
 
 number-positive : (r : Rule) → 19 ≤ numberOf r
-number-positive WrongKinds = omega arith
-number-positive Unwritten = omega arith
-number-positive Mark = omega arith
-number-positive Ninth = omega arith
-number-positive Package = omega arith
-number-positive Tag = omega arith
-number-positive SameName = omega arith
-number-positive Nested = omega arith
-number-positive Shape = omega arith
+number-positive Rule.Kinds = omega arith
+number-positive Rule.Unwritten = omega arith
+number-positive Rule.Mark = omega arith
+number-positive Rule.Ninth = omega arith
+number-positive Rule.Package = omega arith
+number-positive Rule.Tag = omega arith
+number-positive Rule.SameName = omega arith
+number-positive Rule.Nested = omega arith
+number-positive Rule.Shape = omega arith
 
-found-0 : (f : Finding) → found f ≡ 0 → f ≡ Nothing
-found-0 Nothing e = refl
-found-0 (Broken r) e = absurd (never (number-positive r) e)
+positive : {f : Finding} {q : Rule} → f ≡ Broken q → found f ≡ 0 → ⊥
+positive {f} {q} e z = never (number-positive q) (sym (ap found e) ∙ z)
   where
     never : {n : ℕ} → 19 ≤ n → n ≡ 0 → ⊥
     never h e = omega arith
 
--- an item taken: refused there, or one item further
-pub took : (t : Script) (k : Kinds) (i : ℕ) (s : Standing) (x : Item) (r : Walk) → i < t .count → t .count ≤ length (t .items)
-    → x ≡ (getD (t .items) i noSlot) .item → Taken k i s x r → Took t k i s r
-unfolding restOf comeTo
-took t k i s x r h l e u = by (r .finding) refl
-  where
-    by : (f : Finding) → r .finding ≡ f → Took t k i s r
-    by Nothing d = record {
-      went = record {
-        same = rw (d, u .goes d, u .state d, rest-next (t .count) (t .items) k i (stateOf s) h l, ← e, ← u .number, d);
-        depth = u .depth;
-        within = omega (arith, u .goes d);
-        ahead = omega (arith, u .goes d);
-      };
-      later = λ n. omega (arith, u .goes d);
-    }
-    by (Broken q) d = record {
-      went = record {
-        same = rw (stays, rest-next (t .count) (t .items) k i (stateOf s) h l, ← e, ← u .number) (orGo-same (found (r .finding)) i _ _ positive);
-        depth = u .depth;
-        within = omega (arith, stays);
-        ahead = omega (arith, stays);
-      };
-      later = λ n. not-nothing d n;
-    }
-      where
-        stays : r .at ≡ i
-        stays = u .stays (λ n. not-nothing d n)
+pub not-nothing : {X : Type 0} {f : Finding} {q : Rule} → f ≡ Broken q → f ≡ Nothing → X
+not-nothing e n = absurd (positive e (ap found n))
 
-        positive : found (r .finding) ≡ 0 → ⊥
-        positive z = not-nothing d (found-0 (r .finding) z)
+orGo-same : (n i : ℕ) (u v : Verdict) → (n ≡ 0 → ⊥) → orGo n i u ≡ orGo n i v
+orGo-same zero i u v h = absurd (h refl)
+orGo-same (suc n) i u v h = refl
 
-module _ {t : Script} {k : Kinds} {i : ℕ} {s : Standing} where
-  -- nothing found: the verdict to come is that of the place come to
-  pub goes-on : {r : Walk} → Went t k i s r → r .finding ≡ Nothing → restOf t k (r .at) (r .standing) ≡ restOf t k i s
+-- at the end of the items
+rest-end : (k : Kinds) (xs : List Item) (i : ℕ) → drop i xs ≡ [] → (s : State)
+    → restOf k xs i s ≡ orGo (lowest (refusalsAtEnd s)) i accepted
+unfolding restOf
+rest-end k xs i e s = rw e
+
+-- ---- the item checker's ways out: item i of a row is judged where the checker stands
+
+pub record Judged (t : Notes) (i : ℕ) (a : Around) (h : Held) (f : Finding) : Type 0 where
+  pub there : i < t .count
+  pub number : found f ≡ lowest (rowsIn a (holdsOf h) (namesOf (getD (t .reads) i 0)) (getD (t .forms) i Form.Wrong))
+
+module _ {t : Notes} {i : ℕ} {a : Around} {h : Held} {f : Finding} (j : Judged t i a h f) where
+  abbrev form : Form
+  form = getD (t .forms) i Form.Wrong
+
+  -- whatever items these are the notes of, and whatever boxes are around
+  module _ {k : Kinds} {xs : List Item} (told : Told k xs t) (bs : List Box) (b : Boxed a bs) where
+    abbrev now' : NotedAt k xs t i
+    now' = told .each i (j .there)
+
+    abbrev state : State
+    state = stateOf a (holdsOf h) bs
+
+    rest-next : restOf k xs i state ≡ orGo (found f) i (restOf k xs (i + 1) (after state (now' .item)))
+    unfolding restOf
+    rest-next =
+        rw (now' .here, add-one i)
+        (ap (λ (n : ℕ). orGo n i (walk k (suc i) (after state (now' .item)) (drop (suc i) xs)))
+        (sym (j .number ∙ judged-in (now' .noted) a h bs b)))
+
+    goes-on : f ≡ Nothing → restOf k xs (i + 1) (after state (now' .item)) ≡ restOf k xs i state
+    goes-on e =
+        sym (rest-next ∙ ap (λ (g : Finding). orGo (found g) i (restOf k xs (i + 1) (after state (now' .item)))) e)
+
+    is-plain : f ≡ Nothing → form ≡ plainForm (now' .item)
+    is-plain e =
+        plain-form (wrongBoth (kindAt k) (uses (now' .item)) (gives (now' .item))) (now' .item) (now' .noted .form)
+        (right-form a (holdsOf h) (namesOf (getD (t .reads) i 0)) form (sym (j .number) ∙ ap found e))
+
+  -- refused there
+  pub refused-at : {q : Rule} → f ≡ Broken q → Took t i a h (record { at = i; finding = f; closed = false; held = h })
   unfolding comeTo
-  goes-on w e = rw e at (w .same)
-
-  pub went-to : {j : ℕ} {z : Standing} → i ≤ j → j ≤ t .count → z .depth ≤ 8 → restOf t k j z ≡ restOf t k i s
-      → Went t k i s (record { at = j; finding = Nothing; standing = z })
-  unfolding comeTo
-  went-to h l d e = record { same = e; depth = d; within = l; ahead = h }
-
-  pub went-on : {j : ℕ} {z : Standing} {r : Walk} → i ≤ j → restOf t k j z ≡ restOf t k i s → Went t k j z r → Went t k i s r
-  went-on h e w = record { same = w .same ∙ e; depth = w .depth; within = w .within; ahead = omega (arith, w .ahead) }
-
-  -- an item, then the box that it opens
-  pub took-in : {r q : Walk} → Took t k i s r → r .finding ≡ Nothing → Went t k (r .at) (r .standing) q → Took t k i s q
-  took-in u e w = record {
-    went = went-on (u .went .ahead) (goes-on (u .went) e) w;
-    later = λ n. omega (arith, u .later e, w .ahead);
+  refused-at e = record {
+    same = λ k xs told bs b. orGo-same (found f) i _ _ (positive e) ∙ sym (rest-next told bs b);
+    within = omega (arith, j .there);
+    ahead = omega arith;
+    later = λ z. not-nothing e z;
+    inside = λ z. no (sym z);
   }
+
+  -- one item further
+  pub passed : f ≡ Nothing → isOpen form ≡ false → (c : Bool) → c ≡ isClose form → (q : Held)
+      → holdsOf q ≡ moved a (holdsOf h) (namesOf (getD (t .writes) i 0)) form
+      → Took t i a h (record { at = i + 1; finding = Nothing; closed = c; held = q })
+  unfolding comeTo
+  passed e o c ce q qe = record {
+    same = λ k xs told bs b. ap (restOf k xs (i + 1)) (moves told bs b) ∙ goes-on told bs b e;
+    within = omega (arith, j .there);
+    ahead = omega arith;
+    later = λ z. omega arith;
+    inside = λ z. close-inside a (holdsOf h) form (sym ce ∙ z) unmarked;
+  }
+    where
+      unmarked : markIn a (holdsOf h) form ≡ false
+      unmarked = no-mark a (holdsOf h) (namesOf (getD (t .reads) i 0)) form (sym (j .number) ∙ ap found e)
+
+      moves : {k : Kinds} {xs : List Item} (told : Told k xs t) (bs : List Box) (b : Boxed a bs)
+          → stateAfter c a (holdsOf q) bs ≡ after (state told bs b) (now' told bs b .item)
+      moves told bs b =
+          let p = is-plain told bs b e in
+          ap₂ (λ (x : Bool) (y : Holds). stateAfter x a y bs) ce qe
+          ∙ ap (λ (g : Form). stateAfter (isClose g) a (moved a (holdsOf h) (namesOf (getD (t .writes) i 0)) g) bs) p
+          ∙ moved-is a (holdsOf h) bs (a .depth) refl (now' told bs b .item) (namesOf (getD (t .writes) i 0))
+          (sym (ap isOpen p) ∙ o) (sym (ap (markIn a (holdsOf h)) p) ∙ unmarked) (now' told bs b .noted .adds (h .sure))
+
+  -- past the box that the item opens
+  pub opened : f ≡ Nothing → isOpen form ≡ true → (r : Around) → Deeper a h form r → (q : Held)
+      → holdsOf q ≡ entered (holdsOf h) (namesOf (getD (t .writes) i 0)) → (out : Out) → Went t (i + 1) r q out
+      → Took t i a h (backBy out h)
+  unfolding comeTo comeOut
+  opened e o r d q qe out w = record {
+    same = λ k xs told bs b. w .same k xs told (within bs) (deeper-boxed a h bs form r d b)
+        ∙ ap (restOf k xs (i + 1)) (enters told bs b) ∙ goes-on told bs b e;
+    within = w .within;
+    ahead = omega (arith, w .ahead);
+    later = λ z. omega (arith, w .ahead);
+    inside = λ z. no (sym z);
+  }
+    where
+      within : List Box → List Box
+      within bs = boxesIn (a .depth) (boxOf a (holdsOf h)) bs
+
+      enters : {k : Kinds} {xs : List Item} (told : Told k xs t) (bs : List Box) (b : Boxed a bs)
+          → stateOf r (holdsOf q) (within bs) ≡ after (state told bs b) (now' told bs b .item)
+      enters told bs b =
+          let p = is-plain told bs b e in
+          deeper-is a h bs (now' told bs b .item) r (holdsOf q) (namesOf (getD (t .writes) i 0))
+          (subst (λ (g : Form). Deeper a h g r) p d) (sym (ap isOpen p) ∙ o) qe (now' told bs b .noted .adds (h .sure))
+
+-- ---- the block checker's
+
+-- the verdict to come from there is that from here, whatever is around
+pub record Same (t : Notes) (a : Around) (j : ℕ) (g : Held) (i : ℕ) (h : Held) : Type 0 where
+  pub still : (k : Kinds) (xs : List Item) → Told k xs t → (bs : List Box) → Boxed a bs
+      → restOf k xs j (stateOf a (holdsOf g) bs) ≡ restOf k xs i (stateOf a (holdsOf h) bs)
+  pub onward : i ≤ j
+  pub within : j ≤ t .count
+
+module _ {t : Notes} {a : Around} {i j : ℕ} {h g : Held} (s : Same t a j g i h) where
+  pub again : {r : Walk} → Took t j a g r → r .finding ≡ Nothing → r .closed ≡ false → Same t a (r .at) (r .held) i h
+  unfolding comeTo
+  again {r} w e c = record {
+    still = λ k xs told bs b. sym (ap₂ (λ (f : Finding) (q : Bool).
+        orGo (found f) (r .at) (restOf k xs (r .at) (stateAfter q a (holdsOf (r .held)) bs))) e c)
+        ∙ w .same k xs told bs b ∙ s .still k xs told bs b;
+    onward = omega (arith, w .ahead, s .onward);
+    within = w .within;
+  }
+
+  pub out-refused : {r : Walk} {q : Rule} → Took t j a g r → r .finding ≡ Broken q → Went t i a h (leftBy r)
+  unfolding comeTo comeOut
+  out-refused {r} w e = record {
+    same = λ k xs told bs b. orGo-same (found (r .finding)) (r .at) _ _ (positive e) ∙ w .same k xs told bs b ∙ s .still k xs told bs b;
+    within = w .within;
+    ahead = omega (arith, w .ahead, s .onward);
+    done = λ k xs told bs b o z. not-nothing e z;
+  }
+
+  pub out-closed : {r : Walk} → Took t j a g r → r .closed ≡ true → Went t i a h (leftBy r)
+  unfolding comeTo comeOut
+  out-closed {r} w c = record {
+    same = λ k xs told bs b. sym (ap (λ (q : Bool).
+        orGo (found (r .finding)) (r .at) (restOf k xs (r .at) (stateAfter q a (holdsOf (r .held)) bs))) c)
+        ∙ w .same k xs told bs b ∙ s .still k xs told bs b;
+    within = w .within;
+    ahead = omega (arith, w .ahead, s .onward);
+    done = λ k xs told bs b o z. absurd (w .inside c o);
+  }
+
+  pub out-at-end : (f : Finding) → t .count ≤ j → found f ≡ lowest (rowsAtEnd (a .depth) (g .packed))
+      → Went t i a h (record { at = j; finding = f; sure = g .sure; packed = g .packed; tagged = g .tagged })
+  unfolding comeOut
+  out-at-end f e d = record {
+    same = λ k xs told bs b. at-end k xs told bs b ∙ s .still k xs told bs b;
+    within = s .within;
+    ahead = s .onward;
+    done = λ k xs told bs b o z. none-left k xs told bs b (ap found z);
+  }
+    where
+      out : List Box → State
+      out bs = outState (record { at = j; finding = f; sure = g .sure; packed = g .packed; tagged = g .tagged }) bs
+
+      none-left : (k : Kinds) (xs : List Item) → Told k xs t → (bs : List Box) → Boxed a bs → found f ≡ 0
+          → restOf k xs j (out bs) ≡ accepted
+      none-left k xs told bs b z =
+          rest-end k xs j (told .past j e) (out bs)
+          ∙ ap (λ (m : ℕ). orGo m j accepted)
+          (no-box-left a bs (namesOf (g .sure)) (g .packed) (g .tagged) b (sym d ∙ z))
+
+      at-end : (k : Kinds) (xs : List Item) (told : Told k xs t) (bs : List Box) → Boxed a bs
+          → orGo (found f) j (restOf k xs j (out bs)) ≡ restOf k xs j (stateOf a (holdsOf g) bs)
+      at-end k xs told bs b =
+          by (found f) (restOf k xs j (out bs)) (none-left k xs told bs b)
+          ∙ ap (λ (m : ℕ). orGo m j accepted) (d ∙ ap lowest (end-in a (holdsOf g) bs))
+          ∙ sym (rest-end k xs j (told .past j e) (stateOf a (holdsOf g) bs))
+        where
+          by : (m : ℕ) (u : Verdict) → (m ≡ 0 → u ≡ accepted) → orGo m j u ≡ orGo m j accepted
+          by zero u z = z refl
+          by (suc m) u z = refl
 
 -- ---- the whole row
 
-pub begins : (t : Script) (k : Kinds) (z : Standing) → stateOf z ≡ begin → restOf t k 0 z ≡ walk k 0 begin (itemsOf t)
-unfolding restOf
-begins t k z e = rw e
-
-positive : {f : Finding} {q : Rule} → f ≡ Broken q → found f ≡ 0 → ⊥
-positive {f} e z = not-nothing e (found-0 f z)
-
--- refused: nothing is left to come
-pub refused-there : {t : Script} {k : Kinds} {i : ℕ} {s : Standing} {r : Walk} {q : Rule} → Went t k i s r → r .finding ≡ Broken q → outcome r ≡ restOf t k i s
-unfolding comeTo
-refused-there {r = r} w e = orGo-same (found (r .finding)) (r .at) _ _ (positive e) ∙ w .same
-
-pub at-end : (t : Script) (k : Kinds) (i : ℕ) (z : Standing) (f : Finding) → t .count ≤ i → found f ≡ lowest (refusalsAtEnd (stateOf z))
-    → orGo (found f) i accepted ≡ restOf t k i z
-unfolding restOf
-at-end t k i z f h e = rw (rest-end (t .count) (t .items) k i (stateOf z) h, e)
+pub came : (t : Notes) {k : Kinds} {xs : List Item} (a : Around) (h : Held) (r : Out) → Told k xs t → Outside a
+    → Starts h → Went t 0 a h r → outcome r ≡ walk k 0 begin xs
+unfolding comeOut restOf
+came t {k} {xs} a h r told o s w =
+    by (r .finding) refl ∙ w .same k xs told [] (no-boxes a o) ∙ ap (λ (z : State). walk k 0 z xs) (begins a h o s)
+  where
+    by : (f : Finding) → r .finding ≡ f
+        → outcome r ≡ orGo (found (r .finding)) (r .at) (restOf k xs (r .at) (outState r []))
+    by Nothing e =
+        ap (orGo (found (r .finding)) (r .at)) (sym (w .done k xs told [] (no-boxes a o) (o .depth) e))
+    by (Broken q) e =
+        orGo-same (found (r .finding)) (r .at) accepted (restOf k xs (r .at) (outState r [])) (positive e)
 
 -- ---- the verdict
 
@@ -135,34 +242,30 @@ module _ (size : ℕ) (t : Script) where
   unfolding verdict
   out-of-shape e = rw e
 
-  pub few-items : inShape size t ≡ true → t .count ≤ 128
-  unfolding inShape
-  few-items e = leb-true (t .count) 128 (and-l _ _ (and-l _ _ e))
-    where
-      and-l : (a b : Bool) → (a && b) ≡ true → a ≡ true
-      and-l true b e = refl
-      and-l false b e = e
+  -- the whole row is walked, and this is what came of it
+  pub record Ended (k : Kinds) (r : Out) : Type 0 where
+    pub shape : inShape size t ≡ true
+    pub kinds : k ≡ kindsOf (replicate 32 unknown) (itemsOf t)
+    pub walks : outcome r ≡ walk k 0 begin (itemsOf t)
 
-  in-shape : (k : Kinds) (r : Walk) → inShape size t ≡ true → k ≡ kindsOf (replicate 32 unknown) (itemsOf t)
-      → outcome r ≡ walk k 0 begin (itemsOf t) → atLine t (outcome r) ≡ verdict size t
+  in-shape : {k : Kinds} {r : Out} → Ended k r → atLine t (outcome r) ≡ verdict size t
   unfolding verdict
-  in-shape k r e d f = rw (e, f, d)
+  in-shape e = rw (e .shape, e .walks, e .kinds)
 
-  pub says-accepted : (k : Kinds) (r : Walk) → inShape size t ≡ true → k ≡ kindsOf (replicate 32 unknown) (itemsOf t)
-      → outcome r ≡ walk k 0 begin (itemsOf t) → r .finding ≡ Nothing → accepted ≡ verdict size t
-  says-accepted k r e d f n = rw n at (in-shape k r e d f)
+  pub says-accepted : {k : Kinds} {r : Out} → Ended k r → r .finding ≡ Nothing → accepted ≡ verdict size t
+  says-accepted e n = rw n at (in-shape e)
 
-  pub says-refused : (k : Kinds) (r : Walk) {q : Rule} (line : ℕ) → inShape size t ≡ true → k ≡ kindsOf (replicate 32 unknown) (itemsOf t)
-      → outcome r ≡ walk k 0 begin (itemsOf t) → r .finding ≡ Broken q → line ≡ lineOf t (r .at) → refused (numberOf q) line ≡ verdict size t
-  says-refused k r {q} line e d f b l = rw l (sym (number-stands q) ∙ (rw b at (in-shape k r e d f)))
+  pub says-refused : {k : Kinds} {r : Out} → Ended k r → {q : Rule} (line : ℕ) → r .finding ≡ Broken q
+      → line ≡ lineOf t (r .at) → refused (numberOf q) line ≡ verdict size t
+  says-refused {r = r} e {q} line b l = rw l (sym (number-stands q) ∙ (rw b at (in-shape e)))
     where
       number-stands : (q : Rule) → atLine t (orGo (numberOf q) (r .at) accepted) ≡ refused (numberOf q) (lineOf t (r .at))
-      number-stands WrongKinds = refl
-      number-stands Unwritten = refl
-      number-stands Mark = refl
-      number-stands Ninth = refl
-      number-stands Package = refl
-      number-stands Tag = refl
-      number-stands SameName = refl
-      number-stands Nested = refl
-      number-stands Shape = refl
+      number-stands Rule.Kinds = refl
+      number-stands Rule.Unwritten = refl
+      number-stands Rule.Mark = refl
+      number-stands Rule.Ninth = refl
+      number-stands Rule.Package = refl
+      number-stands Rule.Tag = refl
+      number-stands Rule.SameName = refl
+      number-stands Rule.Nested = refl
+      number-stands Rule.Shape = refl

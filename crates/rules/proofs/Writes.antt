@@ -2,17 +2,17 @@
 use Prim.Native.Nat.{ℕ, suc, _+_, _≤_, _<_}
 use mathlib.Core.Path.{_≡_, refl, sym, ap, _∙_}
 use mathlib.Core.Bool.{not, cond}
-use mathlib.Core.List.{List}
 use native.Mathlib.Numerals.{add-one}
-use lib.ListN.{length, getD, set, drop}
+use native.Mathlib.Omega.{arith}
+use lib.ListN.{length, getD, set, drop, replicate}
 use lib.Seq.{set-getD}
 use Rattle.rules.specs.Words.{Act, var, store, copy, calc, meas, timerGet, sendString, wait, setE}
 use Rattle.rules.specs.Words.{setMode, timerStart, cellOn, cellOff, abort}
-use Rattle.rules.specs.Words.{Item, act, pack, opens, branch, closes, breakloop, tag, Slot}
+use Rattle.rules.specs.Words.{Item, act, pack, opens, branch, closes, breakloop, tag, Slot, Script}
 use Rattle.rules.specs.Words.{Known, unknown, known, Gives}
 use Rattle.table.specs.Uses.{Kinds, kindAt, actGives, gives}
 use Rattle.table.specs.Code.{allGives}
-use Rattle.table.specs.Shape.{noSlot, itemsIn}
+use Rattle.table.specs.Shape.{noSlot, itemsOf}
 use Rattle.table.proofs.Items.{drop-items, no-items}
 use Rattle.rules.specs.Check.{isKnown, passedAct, orElse, learn, learnItem, kindsOf}
 
@@ -54,14 +54,26 @@ learns k (closes e) = refl
 learns k breakloop = refl
 learns k tag = refl
 
-module _ (n j : ℕ) (ss : List Slot) (k : Kinds) where
-  -- one item further, by the code's steps: the slot, what its item writes, what is learnt of that
-  pub kinds-next : (s : Slot) (g : Gives) (r : Kinds) → j < n → n ≤ length ss
-      → s ≡ getD ss j noSlot → allGives g ≡ gives (s .item) → r ≡ learn k (allGives g)
-      → kindsOf r (drop (j + 1) (itemsIn n ss)) ≡ kindsOf k (drop j (itemsIn n ss))
-  kinds-next s g r h l e f d =
-      let same = sym (learns k ((getD ss j noSlot) .item)) in
-      rw (d, f, e, drop-items n j ss h l, add-one) (ap (λ (q : Kinds). kindsOf q (drop (suc j) (itemsIn n ss))) same)
+-- the pass has come to item i: what the rest teaches beside what is learnt is what all items teach
+pub record Learning (t : Script) (k : Kinds) (i : ℕ) : Type 0 where
+  pub within : i ≤ t .count
+  pub left : kindsOf k (drop i (itemsOf t)) ≡ kindsOf (replicate 32 unknown) (itemsOf t)
 
-  pub kinds-end : n ≤ j → kindsOf k (drop j (itemsIn n ss)) ≡ k
-  kinds-end h = rw (no-items n j ss h)
+-- one item further, by the code's steps: the slot, what its item writes, what is learnt of that
+pub kinds-next : (t : Script) (i : ℕ) {k : Kinds} → Learning t k i → (s : Slot) (g : Gives) (r : Kinds)
+    → i < t .count → t .count ≤ length (t .items) → s ≡ getD (t .items) i noSlot → allGives g ≡ gives (s .item)
+    → r ≡ learn k (allGives g) → Learning t r (i + 1)
+kinds-next t i {k} l s g r h m e f d = record {
+  within = omega arith;
+  left = further ∙ l .left;
+}
+  where
+    further : kindsOf r (drop (i + 1) (itemsOf t)) ≡ kindsOf k (drop i (itemsOf t))
+    further =
+        let same = sym (learns k ((getD (t .items) i noSlot) .item)) in
+        rw (d, f, e, drop-items (t .count) i (t .items) h m, add-one)
+        (ap (λ (q : Kinds). kindsOf q (drop (suc i) (itemsOf t))) same)
+
+pub kinds-end : {t : Script} {k : Kinds} {i : ℕ} → Learning t k i → t .count ≤ i
+    → k ≡ kindsOf (replicate 32 unknown) (itemsOf t)
+kinds-end {t} {k} {i} l h = sym (ap (kindsOf k) (no-items (t .count) i (t .items) h)) ∙ l .left

@@ -1,5 +1,5 @@
--- The rules (01, The checker: 30 and 19 to 26) as one walk over the items in order. The state before an item is what `after` made of the
--- items before it; each rule is a row, its number and its test, and the lowest that holds is given.
+-- The rules (01, The checker: 30 and 19 to 26) as one walk over the items in order. The state before an item is what
+-- `after` made of the items before it; each rule is a row, its number and its test, and the lowest that holds is given.
 use Prim.Native.Nat.{ℕ, zero, suc}
 use mathlib.Core.Bool.{Bool, true, false, not, _&&_, _||_, cond}
 use mathlib.Core.List.{List, [], _∷_}
@@ -15,26 +15,7 @@ use Rattle.table.specs.Item.{sortOf, isOpen, isBranch, isClose, isBreak, isTag,
 use Rattle.table.specs.Uses.{Kinds, kindAt, kindIn, Names, has, uses, gives, actGives, headGives, wrong, wrongGive}
 use Rattle.table.specs.Uses.{missing, breaksOrder, packs, lowest}
 use Rattle.table.specs.Shape.{slotAt, itemsOf, inShape}
-pub use Rattle.rules.specs.declared.OpenBox.{OpenBox as Box}
-
--- ---- sets of names
-
-abbrev pub nothing : Names
-nothing = replicate 32 false
-
-abbrev pub everything : Names
-everything = replicate 32 true
-
-abbrev pub both : Names → Names → Names
-both [] t = []
-both (a ∷ s) [] = []
-both (a ∷ s) (b ∷ t) = (a && b) ∷ both s t
-
--- the names of the set and those that are written
-abbrev pub put : Names → List Give → Names
-put s [] = s
-put s (like n x ∷ gs) = put (set s n true) gs
-put s (float n ∷ gs) = put (set s n true) gs
+use Rattle.sets.specs.Names.{nothing, everything, both, put}
 
 -- ---- kinds: "a name's kind is that of its first writing in text order, passing over arithmetic and any copy whose
 -- source has no kind from earlier lines"
@@ -86,20 +67,21 @@ abbrev pub kindsOf : Kinds → List Item → Kinds
 kindsOf k [] = k
 kindsOf k (x ∷ xs) = kindsOf (learnItem k x) xs
 
--- ---- the state: what is surely written; the open boxes, innermost first; whether a package is open; whether the tag was seen.
--- An open box: its sort, what held before it, what holds at the end of every branch so far, and whether else was seen.
+-- ---- the state: what is surely written; the open boxes, innermost first; whether a package is open; whether the tag
+-- was seen. An open box: its sort, what held before it, what holds at the end of every branch so far, and whether else
+-- was seen.
+
+pub record Box : Type 0 where
+  pub sort : Sort
+  pub before : Names
+  pub everyEnd : Names
+  pub elseSeen : Bool
 
 pub record State : Type 0 where
   pub sure : Names
   pub boxes : List Box
   pub packed : Bool
   pub tagged : Bool
-
-abbrev pub everyEnd : Box → Names
-everyEnd b = b .«every_end»
-
-abbrev pub elseSeen : Box → Bool
-elseSeen b = b .«else_seen»
 
 abbrev pub begin : State
 begin = record { sure = nothing; boxes = []; packed = false; tagged = false }
@@ -128,7 +110,7 @@ abbrev pub misplaced : Item → List Box → Bool
 misplaced x [] = isBranch x || isClose x || isBreak x
 misplaced x (b ∷ bs) =
     (isBranch x || isClose x) && not (fits x (b .sort))
-    || isBranch x && elseSeen b
+    || isBranch x && b .elseSeen
     || isBreak x && not (anyBox isLoop (b ∷ bs))
 
 -- 25: the same name twice in meas_loop_lsv
@@ -164,9 +146,10 @@ refusalsAtEnd s = (21, not (isEmpty (s .boxes))) ∷ (23, s .packed) ∷ []
 
 -- ---- the state after an item
 
--- after endif, what holds at the end of every branch, a missing else being an empty branch; after any loop, what held before it
+-- after endif, what holds at the end of every branch, a missing else being an empty branch; after any loop, what held
+-- before it
 abbrev pub afterBox : Sort → Box → Names → Names
-afterBox ifBox b s = both (both (everyEnd b) s) (cond (elseSeen b) everything (b .before))
+afterBox ifBox b s = both (both (b .everyEnd) s) (cond (b .elseSeen) everything (b .before))
 afterBox loopBox b s = b .before
 afterBox sweepBox b s = b .before
 
@@ -178,8 +161,8 @@ branched x s (b ∷ bs) = record {
   boxes = record {
     sort = b .sort;
     before = b .before;
-    «every_end» = both (everyEnd b) (s .sure);
-    «else_seen» = isElse x;
+    everyEnd = both (b .everyEnd) (s .sure);
+    elseSeen = isElse x;
   } ∷ bs;
   packed = s .packed;
   tagged = s .tagged;
@@ -187,16 +170,18 @@ branched x s (b ∷ bs) = record {
 
 abbrev pub closed : State → List Box → State
 closed s [] = s
-closed s (b ∷ bs) = record { sure = afterBox (b .sort) b (s .sure); boxes = bs; packed = s .packed; tagged = s .tagged }
+closed s (b ∷ bs) =
+    record { sure = afterBox (b .sort) b (s .sure); boxes = bs; packed = s .packed; tagged = s .tagged }
 
 -- a loop body starts with what held before it, plus both names for a measuring loop; at the tag nothing is surely
 -- written
 abbrev pub after : State → Item → State
-after s (act a) = record { sure = put (s .sure) (actGives a); boxes = s .boxes; packed = s .packed; tagged = s .tagged }
+after s (act a) =
+    record { sure = put (s .sure) (actGives a); boxes = s .boxes; packed = s .packed; tagged = s .tagged }
 after s (pack p) = record { sure = s .sure; boxes = s .boxes; packed = packs p (s .packed); tagged = s .tagged }
 after s (opens h) = record {
   sure = put (s .sure) (headGives h);
-  boxes = record { sort = sortOf h; before = s .sure; «every_end» = everything; «else_seen» = false } ∷ s .boxes;
+  boxes = record { sort = sortOf h; before = s .sure; everyEnd = everything; elseSeen = false } ∷ s .boxes;
   packed = s .packed;
   tagged = s .tagged;
 }
@@ -205,7 +190,8 @@ after s (closes e) = closed s (s .boxes)
 after s breakloop = s
 after s tag = record { sure = nothing; boxes = s .boxes; packed = s .packed; tagged = true }
 
--- ---- the verdict: accepted, or a refusal's number and place. The walk's place is the item's number, the count of items at the end.
+-- ---- the verdict: accepted, or a refusal's number and place. The walk's place is the item's number, the count of items
+-- at the end.
 
 pub data Verdict : Type 0 where
   accepted : Verdict

@@ -1,0 +1,60 @@
+use borrow.Author.Needs.{needs}
+use Rattle.rules.proofs.kinds.learn_written.Statement.{statement}
+use Rattle.rules.proofs.kinds.learn_written.Tie as tie
+
+enum-told : tie.Need-enum-told
+enum-told c = search needs
+
+enum-known-gives : tie.Need-enum-known-gives
+enum-known-gives c = search needs
+
+enum-known-g : tie.Need-enum-known-g
+enum-known-g c = search needs
+
+learn-like-requires : tie.Need-learn-like-requires
+learn-like-requires c κs = search needs
+
+enum-known-g-2 : tie.Need-enum-known-g-2
+enum-known-g-2 c = search needs
+
+learn-float-requires : tie.Need-learn-float-requires
+learn-float-requires c κs = search needs
+
+enum-known-gives-2 : tie.Need-enum-known-gives-2
+enum-known-gives-2 c = search needs
+
+learn-float-requires-2 : tie.Need-learn-float-requires-2
+learn-float-requires-2 c κs = search needs
+
+learn-float-requires-3 : tie.Need-learn-float-requires-3
+learn-float-requires-3 c κs = search needs
+
+returns : tie.Need-returns
+returns c = simp (c .enum-told .given .1)
+
+returns-2 : tie.Need-returns-2
+returns-2 c = simp (c .learn-like .ensures, c .before .before .g .given .1, c .before .before .before .before .before .gives .given .1)
+
+returns-3 : tie.Need-returns-3
+returns-3 c = simp (c .learn-float .ensures, c .before .before .g2 .given .1, c .before .before .before .before .before .gives .given .1)
+
+returns-4 : tie.Need-returns-4
+returns-4 c = simp (c .learn-float3 .ensures, c .before .learn-float2 .ensures, c .before .before .before .gives2 .given .1)
+
+pub learn-written-spec : {M : Type 1} → statement M
+learn-written-spec =
+    tie.close
+    (tie.spec
+    enum-told
+    enum-known-gives
+    enum-known-g
+    learn-like-requires
+    enum-known-g-2
+    learn-float-requires
+    enum-known-gives-2
+    learn-float-requires-2
+    learn-float-requires-3
+    returns
+    returns-2
+    returns-3
+    returns-4)

@@ -1,0 +1,115 @@
+use Rattle.rules.specs.Code.{markIn}
+use borrow.Author.Needs.{needs}
+use Rattle.rules.proofs.refusals.misplaced_mark.Statement.{statement}
+use Rattle.rules.proofs.refusals.misplaced_mark.Tie as tie
+
+enum-told : tie.Need-enum-told
+enum-told c = search needs
+
+enum-told-2 : tie.Need-enum-told-2
+enum-told-2 c = search needs
+
+enum-told-3 : tie.Need-enum-told-3
+enum-told-3 c = search needs
+
+enum-told-4 : tie.Need-enum-told-4
+enum-told-4 c = search needs
+
+enum-told-5 : tie.Need-enum-told-5
+enum-told-5 c = search needs
+
+enum-told-6 : tie.Need-enum-told-6
+enum-told-6 c = search needs
+
+in-if-requires : tie.Need-in-if-requires
+in-if-requires c κs = search needs
+
+enum-known-form : tie.Need-enum-known-form
+enum-known-form c = search needs
+
+enum-told-7 : tie.Need-enum-told-7
+enum-told-7 c = search needs
+
+in-if-requires-2 : tie.Need-in-if-requires-2
+in-if-requires-2 c κs = search needs
+
+enum-told-8 : tie.Need-enum-told-8
+enum-told-8 c = search needs
+
+in-loop-requires : tie.Need-in-loop-requires
+in-loop-requires c κs = search needs
+
+enum-told-9 : tie.Need-enum-told-9
+enum-told-9 c = search needs
+
+enum-told-10 : tie.Need-enum-told-10
+enum-told-10 c = search needs
+
+returns : tie.Need-returns
+unfolding markIn
+returns c = simp (c .enum-told .given .1)
+
+returns-2 : tie.Need-returns-2
+unfolding markIn
+returns-2 c = simp (c .enum-told2 .given .1)
+
+returns-3 : tie.Need-returns-3
+unfolding markIn
+returns-3 c = simp (c .enum-told3 .given .1)
+
+returns-4 : tie.Need-returns-4
+unfolding markIn
+returns-4 c = simp (c .enum-told4 .given .1)
+
+returns-5 : tie.Need-returns-5
+unfolding markIn
+returns-5 c = simp (c .enum-told5 .given .1)
+
+returns-6 : tie.Need-returns-6
+unfolding markIn
+returns-6 c = simp (c .before .in-if .ensures, c .before .before .enum-told6 .given .1)
+
+returns-7 : tie.Need-returns-7
+unfolding markIn
+returns-7 c = simp (c .in-if2 .ensures, c .before .enum-told7 .given .1, c .before .before .before .before .form .given .1)
+
+returns-8 : tie.Need-returns-8
+unfolding markIn
+returns-8 c = simp (c .in-loop .ensures, c .before .enum-told8 .given .1, c .before .before .before .before .form .given .1)
+
+returns-9 : tie.Need-returns-9
+unfolding markIn
+returns-9 c = simp (c .before .enum-told9 .given .1)
+
+returns-10 : tie.Need-returns-10
+unfolding markIn
+returns-10 c = simp (c .enum-told10 .given .1)
+
+pub misplaced-mark-spec : {M : Type 1} → statement M
+misplaced-mark-spec =
+    tie.close
+    (tie.spec
+    enum-told
+    enum-told-2
+    enum-told-3
+    enum-told-4
+    enum-told-5
+    enum-told-6
+    in-if-requires
+    enum-known-form
+    enum-told-7
+    in-if-requires-2
+    enum-told-8
+    in-loop-requires
+    enum-told-9
+    enum-told-10
+    returns
+    returns-2
+    returns-3
+    returns-4
+    returns-5
+    returns-6
+    returns-7
+    returns-8
+    returns-9
+    returns-10)

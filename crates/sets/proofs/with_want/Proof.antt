@@ -1,0 +1,48 @@
+use borrow.Author.Needs.{needs}
+use Rattle.sets.proofs.with_want.Statement.{statement}
+use Rattle.sets.proofs.with_want.Tie as tie
+
+enum-known-want : tie.Need-enum-known-want
+enum-known-want c = search needs
+
+with-operand-requires : tie.Need-with-operand-requires
+with-operand-requires c κs = search needs
+
+enum-known-want-2 : tie.Need-enum-known-want-2
+enum-known-want-2 c = search needs
+
+with-operand-requires-2 : tie.Need-with-operand-requires-2
+with-operand-requires-2 c κs = search needs
+
+with-operand-requires-3 : tie.Need-with-operand-requires-3
+with-operand-requires-3 c κs = search needs
+
+enum-known-want-3 : tie.Need-enum-known-want-3
+enum-known-want-3 c = search needs
+
+with-operand-requires-4 : tie.Need-with-operand-requires-4
+with-operand-requires-4 c κs = search needs
+
+returns : tie.Need-returns
+returns c = simp (c .with-operand .ensures, c .before .before .want .given .1)
+
+returns-2 : tie.Need-returns-2
+returns-2 c = simp (c .with-operand3 .ensures, c .before .with-operand2 .ensures, c .before .before .before .want2 .given .1)
+
+returns-3 : tie.Need-returns-3
+returns-3 c = simp (c .with-operand4 .ensures, c .before .before .want3 .given .1)
+
+pub with-want-spec : {M : Type 1} → statement M
+with-want-spec =
+    tie.close
+    (tie.spec
+    enum-known-want
+    with-operand-requires
+    enum-known-want-2
+    with-operand-requires-2
+    with-operand-requires-3
+    enum-known-want-3
+    with-operand-requires-4
+    returns
+    returns-2
+    returns-3)

@@ -1,0 +1,113 @@
+// Sets of names as the bits of a word: a name's number is its bit's.
+ghost use mathlib.Core.Path.{_≡_};
+ghost use mathlib.Core.Bool.{true};
+ghost use mathlib.Core.List.{[], _∷_};
+ghost use lib.ListN.{set};
+ghost use Rattle.table.specs.Uses.{has};
+ghost use Rattle.table.specs.Code.{allWants, allGives};
+ghost use Rattle.sets.specs.Names.{nothing, everything, both, either, outside, ask, asks, put, namesOf};
+use table::Give;
+use table::Gives;
+use table::Operand;
+use table::Want;
+use table::Wants;
+
+const NAMES: usize = 32;
+
+// Every bit of a word.
+const ALL: u32 = 4294967295;
+
+pub fn none() -> u32
+    ensures { λ r. ⌜ namesOf r ≡ nothing ⌝ }
+{
+    0
+}
+
+pub fn all() -> u32
+    ensures { λ r. ⌜ namesOf r ≡ everything ⌝ }
+{
+    ALL
+}
+
+pub fn has_name(names: u32, n: usize) -> bool
+    ensures { λ r. ⌜ r ≡ has (namesOf names) n ⌝ }
+{
+    if n < NAMES {
+        return (names >> n) % 2 == 1;
+    }
+    false
+}
+
+pub fn with_name(names: u32, n: usize) -> u32
+    ensures { λ r. ⌜ namesOf r ≡ set (namesOf names) n true ⌝ }
+{
+    if n < NAMES {
+        return names | (1 << n);
+    }
+    names
+}
+
+pub fn in_both(a: u32, b: u32) -> u32
+    ensures { λ r. ⌜ namesOf r ≡ both (namesOf a) (namesOf b) ⌝ }
+{
+    a & b
+}
+
+pub fn in_either(a: u32, b: u32) -> u32
+    ensures { λ r. ⌜ namesOf r ≡ either (namesOf a) (namesOf b) ⌝ }
+{
+    a | b
+}
+
+// Whether a name of the first set is not in the second.
+pub fn any_outside(a: u32, b: u32) -> bool
+    ensures { λ r. ⌜ r ≡ outside (namesOf a) (namesOf b) ⌝ }
+{
+    a & b != a
+}
+
+fn with_operand(names: u32, x: Operand) -> u32
+    ensures { λ r. ⌜ namesOf r ≡ ask (namesOf names) x ⌝ }
+{
+    match x {
+        Operand::Name(n) => with_name(names, n),
+        Operand::Literal(_) => names,
+    }
+}
+
+fn with_want(names: u32, want: Want) -> u32
+    ensures { λ r. ⌜ namesOf r ≡ asks (namesOf names) (want ∷ []) ⌝ }
+{
+    match want {
+        Want::Any(x) => with_operand(names, x),
+        Want::Alike(x, y) => with_operand(with_operand(names, x), y),
+        Want::Float(x) => with_operand(names, x),
+    }
+}
+
+// The names of the set and those that are read.
+pub fn with_read(names: u32, wants: Wants) -> u32
+    ensures { λ r. ⌜ namesOf r ≡ asks (namesOf names) (allWants wants) ⌝ }
+{
+    match wants {
+        Wants::Nothing => names,
+        Wants::One(w) => with_want(names, w),
+        Wants::FourFloats(a, b, c, d) => {
+            with_operand(with_operand(with_operand(with_operand(names, a), b), c), d)
+        }
+    }
+}
+
+// The names of the set and those that are written.
+pub fn with_written(names: u32, gives: Gives) -> u32
+    ensures { λ r. ⌜ namesOf r ≡ put (namesOf names) (allGives gives) ⌝ }
+{
+    match gives {
+        Gives::Nothing => names,
+        Gives::One(g) => match g {
+            Give::Like(n, _) => with_name(names, n),
+            Give::Float(n) => with_name(names, n),
+        },
+        Gives::TwoFloats(a, b) => with_name(with_name(names, a), b),
+    }
+}
