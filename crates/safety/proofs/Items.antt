@@ -40,7 +40,7 @@ use Rattle.table.specs.Uses.{actGives, headGives, kindOf, differ, Kinds, kindAt
 use Rattle.table.specs.Shape.{givesOk}
 use Rattle.mates.specs.Mates.{itemAt}
 use Rattle.rules.proofs.Placed.{Box}
-use Rattle.rules.specs.Check.{put}
+use Rattle.sets.specs.Names.{put}
 use Rattle.state.specs.declared.Cell.{Cell}
 use Rattle.state.specs.declared.Cell.the-variants.{Holds as held}
 use Rattle.state.specs.declared.Offer.{Offer}

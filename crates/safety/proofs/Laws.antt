@@ -8,7 +8,7 @@ use native.Mathlib.Omega.{arith}
 use lib.Dec.{T}
 use lib.ListN.{getD, set, replicate, drop}
 use Rattle.table.specs.Uses.{Names, has}
-use Rattle.rules.specs.Check.{nothing, both}
+use Rattle.sets.specs.Names.{nothing, both}
 
 pub no : {X : Type 0} → true ≡ false → X
 no e = absurd (subst T e tt)

@@ -23,7 +23,8 @@ use Rattle.table.specs.Item.{sortOf, isElse, isLoop, fits}
 use Rattle.table.specs.Uses.{conditionUses, Kinds, kindAt, wrong, Names, has, missing, lowest}
 use Rattle.mates.specs.declared.Open.{Open}
 use Rattle.mates.specs.Mates.{belongs, closeFrom, closeOf, past}
-use Rattle.rules.specs.Check.{everything, both, isEmpty, afterBox}
+use Rattle.sets.specs.Names.{everything, both}
+use Rattle.rules.specs.Check.{isEmpty, afterBox}
 use Rattle.rules.proofs.Placed.{Box, plain, plains}
 use Rattle.state.specs.State.{Vars, holds}
 use Rattle.machine.specs.Machine.{readFaults, Chosen, into, beyond, choose}

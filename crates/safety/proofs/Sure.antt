@@ -29,7 +29,8 @@ use Rattle.table.specs.declared.Give.the-variants.{Like as like, Float as float
 use Rattle.table.specs.Uses.{actUses, uses, actGives, headGives, gives, Kinds, kindAt, kindIn, Names, has, gone}
 use Rattle.table.specs.Uses.{missing}
 use Rattle.table.specs.Shape.{givesOk, itemOk}
-use Rattle.rules.specs.Check.{everything, both, put, isKnown, orElse, learn, base, afterBox}
+use Rattle.sets.specs.Names.{everything, both, put}
+use Rattle.rules.specs.Check.{isKnown, orElse, learn, base, afterBox}
 use Rattle.rules.proofs.Placed.{Box, plain, bare, after}
 use Rattle.safety.proofs.Laws.{no′, or-l, and-l, not-f, AfterSet, getD-set, both-l, both-r, not-nothing}
 use Rattle.safety.proofs.Walk.{Accepted, state, gives-ok, like-below, float-below}
