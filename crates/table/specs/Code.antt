@@ -2,9 +2,11 @@
 use mathlib.Core.List.{List, [], _∷_}
 use Rattle.table.specs.Uses.{Want, floats, Give, float}
 pub use Rattle.table.specs.declared.Wants.{Wants}
-pub use Rattle.table.specs.declared.Wants.the-variants.{Nothing as noWants, One as oneWant, FourFloats as fourFloats}
+pub use Rattle.table.specs.declared.Wants.the-variants.{Nothing as noWants, One as oneWant}
+pub use Rattle.table.specs.declared.Wants.the-variants.{FourFloats as fourFloats}
 pub use Rattle.table.specs.declared.Gives.{Gives}
-pub use Rattle.table.specs.declared.Gives.the-variants.{Nothing as noGives, One as oneGive, TwoFloats as twoFloats}
+pub use Rattle.table.specs.declared.Gives.the-variants.{Nothing as noGives, One as oneGive}
+pub use Rattle.table.specs.declared.Gives.the-variants.{TwoFloats as twoFloats}
 
 abbrev pub allWants : Wants → List Want
 allWants noWants = []

@@ -6,7 +6,8 @@ use mathlib.Core.List.{List}
 use lib.Dec.{eqb}
 use lib.ListN.{length}
 use Rattle.argument.specs.declared.Refusal.{Refusal}
-use Rattle.argument.specs.declared.Refusal.the-variants.{TooLong, NoEnd, LongLine, TooManyItems, UnknownCommand, BadArguments, Undeclared, DeclaredTwice, TooManyNames}
+use Rattle.argument.specs.declared.Refusal.the-variants.{TooLong, NoEnd, LongLine, TooManyItems, UnknownCommand}
+use Rattle.argument.specs.declared.Refusal.the-variants.{BadArguments, Undeclared, DeclaredTwice, TooManyNames}
 use Rattle.argument.specs.Refusal.{numberOf}
 use Rattle.script.specs.declared.Answer.the-variants.{Accepted, Refused}
 use Rattle.script.specs.declared.Loaded.{Loaded}
@@ -27,10 +28,12 @@ positive DeclaredTwice = refl
 positive TooManyNames = refl
 
 module _ (s : List ℕ) (l : Loaded) (loads : meaning l ≡ loaded s) where
-  pub by-rules : (v : Verdict) (r : Told) → l .answer ≡ Accepted → v ≡ verdict (length s) (l .script) → r ≡ told v → r ≡ vetted s
+  pub by-rules : (v : Verdict) (r : Told) → l .answer ≡ Accepted → v ≡ verdict (length s) (l .script) → r ≡ told v
+      → r ≡ vetted s
   unfolding vetted
   by-rules v r e f g = rw (← loads, e) (g ∙ ap told f)
 
-  pub by-loader : {q : Refusal} {n : ℕ} (k : ℕ) → l .answer ≡ Refused q n → k ≡ numberOf q → _≡_ {A = Told} (record { number = k; line = n }) (vetted s)
+  pub by-loader : {q : Refusal} {n : ℕ} (k : ℕ) → l .answer ≡ Refused q n → k ≡ numberOf q
+      → _≡_ {A = Told} (record { number = k; line = n }) (vetted s)
   unfolding vetted
   by-loader {q} k e f = rw (← loads, e, positive q, f)
