@@ -72,7 +72,8 @@ note-next {t} {k} {i} rs ws fs n {b} r p h e = record {
 
 -- all items are in the rows
 pub all-noted : {t : Script} {k : Kinds} {i : ℕ} (rs ws : List ℕ) (fs : List Form)
-    → Noting t k (notes rs ws fs (t .count)) i → t .count ≤ i → t .count ≤ length (t .items) → Told k (itemsOf t) (notes rs ws fs (t .count))
+    → Noting t k (notes rs ws fs (t .count)) i → t .count ≤ i → t .count ≤ length (t .items)
+    → Told k (itemsOf t) (notes rs ws fs (t .count))
 all-noted {t} {k} {i} rs ws fs p h l = record {
   each = λ j m. record {
     item = slotAt t j .item;

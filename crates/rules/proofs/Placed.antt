@@ -1,5 +1,5 @@
--- The checker's walk with a place beside each open box: that of the item which opens it. No rule reads it; by it the open
--- boxes of the text and of a run are told. Assumes nothing.
+-- The checker's walk with a place beside each open box: that of the item which opens it. No rule reads it; by it the
+-- open boxes of the text and of a run are told. Assumes nothing.
 use Prim.Native.Nat.{ℕ, suc}
 use mathlib.Core.Path.{_≡_, refl, ap}
 use mathlib.Core.Bool.{Bool, true, false}

@@ -123,7 +123,8 @@ module _ {k : Kinds} {x : Item} {reads writes : ℕ} {f : Form} (n : Noted k x r
           ∙ by (wrongBoth (kindAt k) (uses x) (gives x)) refl
         where
           by : (q : Bool) → wrongBoth (kindAt k) (uses x) (gives x) ≡ q
-              → lowest (rowsIn a (holdsOf h) (namesOf reads) (formBy q x)) ≡ lowest (refusals k (stateOf a (holdsOf h) bs) x)
+              → lowest (rowsIn a (holdsOf h) (namesOf reads) (formBy q x))
+              ≡ lowest (refusals k (stateOf a (holdsOf h) bs) x)
           by true e = rw e
           by false e = ap lowest (plain-rows e)
 

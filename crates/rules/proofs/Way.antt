@@ -172,7 +172,8 @@ module _ {t : Notes} {a : Around} {i j : ℕ} {h g : Held} (s : Same t a j g i h
   pub out-refused : {r : Walk} {q : Rule} → Took t j a g r → r .finding ≡ Broken q → Went t i a h (leftBy r)
   unfolding comeTo comeOut
   out-refused {r} w e = record {
-    same = λ k xs told bs b. orGo-same (found (r .finding)) (r .at) _ _ (positive e) ∙ w .same k xs told bs b ∙ s .still k xs told bs b;
+    same = λ k xs told bs b. orGo-same (found (r .finding)) (r .at) _ _ (positive e) ∙ w .same k xs told bs b
+        ∙ s .still k xs told bs b;
     within = w .within;
     ahead = omega (arith, w .ahead, s .onward);
     done = λ k xs told bs b o z. not-nothing e z;
@@ -259,7 +260,8 @@ module _ (size : ℕ) (t : Script) where
       → line ≡ lineOf t (r .at) → refused (numberOf q) line ≡ verdict size t
   says-refused {r = r} e {q} line b l = rw l (sym (number-stands q) ∙ (rw b at (in-shape e)))
     where
-      number-stands : (q : Rule) → atLine t (orGo (numberOf q) (r .at) accepted) ≡ refused (numberOf q) (lineOf t (r .at))
+      number-stands : (q : Rule)
+          → atLine t (orGo (numberOf q) (r .at) accepted) ≡ refused (numberOf q) (lineOf t (r .at))
       number-stands Rule.Kinds = refl
       number-stands Rule.Unwritten = refl
       number-stands Rule.Mark = refl

@@ -190,8 +190,8 @@ after s (closes e) = closed s (s .boxes)
 after s breakloop = s
 after s tag = record { sure = nothing; boxes = s .boxes; packed = s .packed; tagged = true }
 
--- ---- the verdict: accepted, or a refusal's number and place. The walk's place is the item's number, the count of items
--- at the end.
+-- ---- the verdict: accepted, or a refusal's number and place. The walk's place is the item's number, the count of
+-- items at the end.
 
 pub data Verdict : Type 0 where
   accepted : Verdict

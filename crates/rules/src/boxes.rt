@@ -4,13 +4,12 @@ ghost use Prim.Native.Nat.{_≤_, _<_};
 ghost use lib.ListN.{length};
 ghost use Rattle.rules.specs.Code.{isClose, leftBy, backBy, notes, Went, Took};
 use super::Finding;
+use super::ITEMS;
 use super::briefs::Form;
 use super::refusals;
 use super::written;
 use super::written::Around;
 use super::written::Held;
-
-const ITEMS: usize = 128;
 
 // Past an item: where, what was found there, whether the item closed the row's box, and what holds.
 pub struct Walk {

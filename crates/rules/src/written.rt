@@ -4,13 +4,14 @@ ghost use mathlib.Core.Bool.{cond};
 ghost use Prim.Native.Nat.{_<_};
 ghost use Rattle.sets.specs.Names.{everything, both, namesOf};
 ghost use Rattle.rules.specs.Check.{afterBox};
-ghost use Rattle.rules.specs.Code.{holdsOf, boxOf, packsIn, surely, moved, sortIn, Deeper, entered, Outside, Starts};
+ghost use Rattle.rules.specs.Code.{holdsOf, boxOf, packsIn, surely, moved, sortIn, Deeper, entered};
+ghost use Rattle.rules.specs.Code.{Outside, Starts};
 use super::briefs::Form;
 use super::briefs::Step;
 use table::Sort;
 
-// What is around a row of items: how many boxes are open; of the innermost its sort and what held before it; whether any
-// is a loop, and whether any is a measuring loop.
+// What is around a row of items: how many boxes are open; of the innermost its sort and what held before it; whether
+// any is a loop, and whether any is a measuring loop.
 pub struct Around {
     pub depth: usize,
     pub sort: Sort,

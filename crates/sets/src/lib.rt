@@ -14,13 +14,15 @@ use table::Wants;
 
 const NAMES: usize = 32;
 
-// Every bit of a word.
+// No bit of a word, and every bit.
+const NONE: u32 = 0;
+
 const ALL: u32 = 4294967295;
 
 pub fn none() -> u32
     ensures { λ r. ⌜ namesOf r ≡ nothing ⌝ }
 {
-    0
+    NONE
 }
 
 pub fn all() -> u32
@@ -63,7 +65,8 @@ pub fn in_either(a: u32, b: u32) -> u32
 pub fn any_outside(a: u32, b: u32) -> bool
     ensures { λ r. ⌜ r ≡ outside (namesOf a) (namesOf b) ⌝ }
 {
-    a & b != a
+    let common = a & b;
+    common != a
 }
 
 fn with_operand(names: u32, x: Operand) -> u32

@@ -59,7 +59,8 @@ returns-2 c = says-accepted _ _ (ended (c .before .before)) (c .enum-told .given
 returns-3 : tie.Need-returns-3
 returns-3 c =
     let broken = c .before .before in
-    says-refused _ _ (ended (broken .before .before)) (c .line-of .result) (broken .finding .given .1) (c .line-of .ensures)
+    says-refused _ _ (ended (broken .before .before)) (c .line-of .result) (broken .finding .given .1)
+    (c .line-of .ensures)
 
 pub check-spec : {M : Type 1} → statement M
 check-spec =

@@ -96,7 +96,8 @@ module _ (c : tie.After-start Inv-loop μ-loop) where
 
   abbrev seen : Notes
   seen =
-      notes (ended .before .loop .reads) (ended .before .loop .writes) (ended .before .loop .forms) (entry .args .t1 .count)
+      notes (ended .before .loop .reads) (ended .before .loop .writes) (ended .before .loop .forms)
+      (entry .args .t1 .count)
 
   told : Told (kindsIn (entry .args .kinds)) (itemsOf (entry .args .t1)) seen
   told =

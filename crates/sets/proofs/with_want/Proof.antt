@@ -27,7 +27,9 @@ returns : tie.Need-returns
 returns c = simp (c .with-operand .ensures, c .before .before .want .given .1)
 
 returns-2 : tie.Need-returns-2
-returns-2 c = simp (c .with-operand3 .ensures, c .before .with-operand2 .ensures, c .before .before .before .want2 .given .1)
+returns-2 c =
+    let first = c .before in
+    simp (c .with-operand3 .ensures, first .with-operand2 .ensures, first .before .before .want2 .given .1)
 
 returns-3 : tie.Need-returns-3
 returns-3 c = simp (c .with-operand4 .ensures, c .before .before .want3 .given .1)

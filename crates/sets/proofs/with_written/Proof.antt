@@ -33,10 +33,14 @@ returns : tie.Need-returns
 returns c = simp (c .enum-told .given .1)
 
 returns-2 : tie.Need-returns-2
-returns-2 c = simp (c .with-name .ensures, c .before .before .g .given .1, c .before .before .before .before .before .gives .given .1)
+returns-2 c =
+    let give = c .before .before in
+    simp (c .with-name .ensures, give .g .given .1, give .before .before .before .gives .given .1)
 
 returns-3 : tie.Need-returns-3
-returns-3 c = simp (c .with-name2 .ensures, c .before .before .g2 .given .1, c .before .before .before .before .before .gives .given .1)
+returns-3 c =
+    let give = c .before .before in
+    simp (c .with-name2 .ensures, give .g2 .given .1, give .before .before .before .gives .given .1)
 
 returns-4 : tie.Need-returns-4
 returns-4 c = simp (c .with-name4 .ensures, c .before .with-name3 .ensures, c .before .before .before .gives2 .given .1)

@@ -10,7 +10,8 @@ use Rattle.rules.specs.Verdict.{found}
 use Rattle.rules.specs.Code.{holdsOf, Notes, notes}
 use Rattle.rules.specs.declared.briefs.Form.the-variants as Form
 use Rattle.rules.proofs.Rows.{room}
-use Rattle.rules.proofs.Way.{Judged, refused-at, passed, opened, Same, again, out-refused, out-closed, out-at-end}
+use Rattle.rules.proofs.Way.{Judged, refused-at, passed, opened}
+use Rattle.rules.proofs.Way.{Same, again, out-refused, out-closed, out-at-end}
 use Rattle.rules.proofs.boxes.check_block.Reads as check-block
 use Rattle.rules.proofs.boxes.check_block.Kinds as check-block-kinds
 use Rattle.rules.proofs.boxes.+check_block+check_item.Lts-check_block as block

@@ -33,7 +33,16 @@ returns-2 : tie.Need-returns-2
 returns-2 c = simp (c .one-wrong .ensures, c .before .before .wants .given .1)
 
 returns-3 : tie.Need-returns-3
-returns-3 c = simp (c .no-float4 .ensures, c .before .no-float3 .ensures, c .before .before .no-float2 .ensures, c .before .before .before .no-float .ensures, c .before .before .before .before .before .wants2 .given .1)
+returns-3 c =
+    let second = c .before .before in
+    let first = second .before in
+    simp (
+      c .no-float4 .ensures,
+      c .before .no-float3 .ensures,
+      second .no-float2 .ensures,
+      first .no-float .ensures,
+      first .before .before .wants2 .given .1,
+    )
 
 pub any-wrong-spec : {M : Type 1} → statement M
 any-wrong-spec =

@@ -14,7 +14,8 @@ has-name-requires-2 c κs = search needs
 returns : tie.Need-returns
 returns c =
     let given = c .before .before .args in
-    ap₂ (λ (p q : Bool). p || q) (c .before .has-name .ensures) (c .has-name2 .ensures) ∙ known-there (given .kinds) (given .n)
+    ap₂ (λ (p q : Bool). p || q) (c .before .has-name .ensures) (c .has-name2 .ensures)
+    ∙ known-there (given .kinds) (given .n)
 
 pub has-kind-spec : {M : Type 1} → statement M
 has-kind-spec = tie.close (tie.spec has-name-requires has-name-requires-2 returns)

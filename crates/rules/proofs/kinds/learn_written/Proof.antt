@@ -33,13 +33,19 @@ returns : tie.Need-returns
 returns c = simp (c .enum-told .given .1)
 
 returns-2 : tie.Need-returns-2
-returns-2 c = simp (c .learn-like .ensures, c .before .before .g .given .1, c .before .before .before .before .before .gives .given .1)
+returns-2 c =
+    let give = c .before .before in
+    simp (c .learn-like .ensures, give .g .given .1, give .before .before .before .gives .given .1)
 
 returns-3 : tie.Need-returns-3
-returns-3 c = simp (c .learn-float .ensures, c .before .before .g2 .given .1, c .before .before .before .before .before .gives .given .1)
+returns-3 c =
+    let give = c .before .before in
+    simp (c .learn-float .ensures, give .g2 .given .1, give .before .before .before .gives .given .1)
 
 returns-4 : tie.Need-returns-4
-returns-4 c = simp (c .learn-float3 .ensures, c .before .learn-float2 .ensures, c .before .before .before .gives2 .given .1)
+returns-4 c =
+    let first = c .before in
+    simp (c .learn-float3 .ensures, first .learn-float2 .ensures, first .before .before .gives2 .given .1)
 
 pub learn-written-spec : {M : Type 1} → statement M
 learn-written-spec =

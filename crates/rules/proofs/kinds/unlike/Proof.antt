@@ -26,7 +26,8 @@ returns c =
     ap₂ (λ (p q : Bool). p || q)
     (ap₂ (λ (p q : Bool). p && q) (first .before .is-whole .ensures) (first .is-float .ensures))
     (ap₂ (λ (p q : Bool). p && q) (c .before .is-float2 .ensures) (c .is-whole2 .ensures))
-    ∙ differs (kindIn (kindAt (kindsIn (given .kinds))) (given .x)) (kindIn (kindAt (kindsIn (given .kinds))) (given .y))
+    ∙ differs (kindIn (kindAt (kindsIn (given .kinds))) (given .x))
+    (kindIn (kindAt (kindsIn (given .kinds))) (given .y))
 
 pub unlike-spec : {M : Type 1} → statement M
 unlike-spec =

@@ -71,11 +71,15 @@ returns-6 c = simp (c .before .in-if .ensures, c .before .before .enum-told6 .gi
 
 returns-7 : tie.Need-returns-7
 unfolding markIn
-returns-7 c = simp (c .in-if2 .ensures, c .before .enum-told7 .given .1, c .before .before .before .before .form .given .1)
+returns-7 c =
+    let told = c .before in
+    simp (c .in-if2 .ensures, told .enum-told7 .given .1, told .before .before .before .form .given .1)
 
 returns-8 : tie.Need-returns-8
 unfolding markIn
-returns-8 c = simp (c .in-loop .ensures, c .before .enum-told8 .given .1, c .before .before .before .before .form .given .1)
+returns-8 c =
+    let told = c .before in
+    simp (c .in-loop .ensures, told .enum-told8 .given .1, told .before .before .before .form .given .1)
 
 returns-9 : tie.Need-returns-9
 unfolding markIn

@@ -27,13 +27,20 @@ same-name-requires c κs = search needs
 nested-sweep-requires : tie.Need-nested-sweep-requires
 nested-sweep-requires c κs = search needs
 
+-- all eight tests are made
+module _ (c : tie.After-nested-sweep) where
+  abbrev order : tie.After-breaks-order
+  order = c .before .before .before
+
+  abbrev reads : tie.After-unwritten
+  reads = order .before .before .before
+
 returns : tie.Need-returns
 returns c =
-    let order = c .before .before .before in
-    let unwritten = order .before .before .before in
-    same-rows (unwritten .before .is-wrong .ensures) (unwritten .unwritten .ensures)
-    (order .before .before .misplaced-mark .ensures) (order .before .ninth-box .ensures) (order .breaks-order .ensures)
-    (c .before .before .misplaced-tag .ensures) (c .before .same-name .ensures) (c .nested-sweep .ensures)
+    same-rows (reads c .before .is-wrong .ensures) (reads c .unwritten .ensures)
+    (order c .before .before .misplaced-mark .ensures) (order c .before .ninth-box .ensures)
+    (order c .breaks-order .ensures) (c .before .before .misplaced-tag .ensures) (c .before .same-name .ensures)
+    (c .nested-sweep .ensures)
 
 pub tests-of-spec : {M : Type 1} → statement M
 tests-of-spec =

@@ -12,7 +12,9 @@ in-both-requires-2 : tie.Need-in-both-requires-2
 in-both-requires-2 c κs = search needs
 
 returns : tie.Need-returns
-returns c = simp (c .in-both2 .ensures, c .before .all .ensures, c .before .before .before .in-both .ensures, c .before .before .if1 .taken)
+returns c =
+    let seen = c .before .before in
+    simp (c .in-both2 .ensures, c .before .all .ensures, seen .before .in-both .ensures, seen .if1 .taken)
 
 in-both-requires-3 : tie.Need-in-both-requires-3
 in-both-requires-3 c κs = search needs
