@@ -1,10 +1,8 @@
 -- A local array that is lent whole as a slice, `&mut a`, and comes back.
---     lends-array      the array's cell ∗ what it owns  ⊢ ⇛ ∃ γ. own (the `&κ mut [T]` ((b, 0), γ, xs)) ∗ the lender's
--- part
---     array-back       [†κ] ∗ the lender's part ∗ finally γ zs  ⊢ ⇛ (⌜zs's relation⌝ ∧ the array's cell at zs's value)
---     into-field       the relation of an array of a declared type gives that of the same array as a struct's field
--- τ is the local's MIR type, which has the array's raw form (`refl` shows it).
--- Assumes `Given`.
+--     lends-array   the array's cell ∗ what it owns  ⊢ ⇛ ∃ γ. own (`&κ mut [T]` ((b, 0), γ, xs)) ∗ the lender's part
+--     array-back    [†κ] ∗ the lender's part ∗ finally γ zs  ⊢ ⇛ (⌜zs's relation⌝ ∧ the array's cell at zs's value)
+--     into-field    the relation of an array of a declared type gives that of the same array as a struct's field
+-- τ is the local's MIR type, which has the array's raw form (`refl` shows it). Assumes `Given`.
 use mathlib.Core.Path.{_≡_, refl, sym, _∙_, subst}
 use Prim.Native.Nat.{ℕ}
 use mathlib.Core.List.{List, [], _∷_, map}

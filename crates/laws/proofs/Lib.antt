@@ -1,3 +1,4 @@
+pub mod Apart
 pub mod Stack
 pub mod Lists
 pub mod Walk

@@ -6,6 +6,7 @@ use native.Mathlib.Decide.{decLt}
 use native.Mathlib.Omega.{arith}
 use Prim.Native.Nat.{ℕ, _+_, _-_, _<_}
 use lib.ListN.{length, take, drop}
+use Rattle.laws.proofs.Apart.{apart}
 use Rattle.text.specs.Cut.{lines}
 use Rattle.reply_line.specs.declared.Line.{Line}
 use Rattle.reply_line.specs.declared.Refusal.{Refusal}
@@ -22,7 +23,7 @@ use Rattle.reply.specs.declared.Row.{Row}
 use Rattle.reply.specs.Lines.{nextLine}
 use Rattle.reply.specs.Reply.{byMove, verdictFrom}
 use Rattle.reply.specs.Rows.{rowsAfter, insideAfter, whileOn, rowsFrom, seenFrom}
-use Rattle.reply.proofs.Lines.{apart, Stands, stands, serves, Round, goes-on, ends-here, refused-here}
+use Rattle.reply.proofs.Lines.{Stands, stands, serves, Round, goes-on, ends-here, refused-here}
 use Rattle.reply.proofs.Lines.{no-line, no-more}
 
 -- before a line: its number, the bytes used, what is open, inside which row, and the rows so far

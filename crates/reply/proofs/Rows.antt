@@ -22,8 +22,7 @@ use Rattle.reply.specs.Rows.{scriptRow, newRow, raised, rowsAfter, insid
 use Rattle.reply.specs.Rows.{isOpening, isPackage, countBy, packagesOf}
 use Rattle.reply.proofs.Course.{Place, past, makesFrom, readsFrom, saysFrom, Done, by-lines}
 
--- ---- what holds at every line: the rows are counted, the innermost is one of them, and parents stand before their
--- rows
+-- ---- what holds at every line: the rows are counted, the innermost is one, and parents stand before their rows
 
 abbrev rowAt : List Row → ℕ → Row
 rowAt rows i = getD rows i scriptRow

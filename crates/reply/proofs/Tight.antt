@@ -6,6 +6,7 @@ use mathlib.Core.Path.{_≡_, refl, sym, _∙_, ap, ap₂}
 use Prim.Native.Nat.{ℕ}
 use lib.Dec.{eqb}
 use lib.ListN.{getD}
+use Rattle.laws.proofs.Apart.{apart}
 use Rattle.reply_line.specs.declared.Refusal.{Refusal}
 use Rattle.reply_line.specs.declared.Refusal.the-variants as Refusal
 use Rattle.reply_line.specs.Line.{numberOf}
@@ -19,7 +20,6 @@ use Rattle.reply.specs.Lines.{Begins, Serves}
 use Rattle.reply.specs.Numbers.{ReadNumbers, rowIn}
 use Rattle.reply.specs.Reply.{meaning, outcomeOf}
 use Rattle.reply.specs.Rows.{scriptRow, ReadRows, Tabled, tableMeaning, readTable}
-use Rattle.reply.proofs.Lines.{apart}
 
 -- the refusal that has a number
 named : ℕ → Refusal

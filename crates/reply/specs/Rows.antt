@@ -29,9 +29,8 @@ newRow k v up = record { kind = k; mark = v; parent = up; packages = 0 }
 abbrev pub raised : Row → Row
 raised r = record { kind = r .kind; mark = r .mark; parent = r .parent; packages = r .packages + 1 }
 
--- what a line makes of the rows, inside row `at`: an opening mark appends one, whose parent that is, and a package
--- counts
--- in it
+-- what a line makes of the rows, inside row `at`: an opening mark appends one, whose parent that is, and a package is
+-- counted in it
 unfoldable pub rowsAfter : Line → ℕ → List Row → List Row
 rowsAfter Line.Quiet at rows = rows
 rowsAfter Line.Empty at rows = rows

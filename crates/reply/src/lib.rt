@@ -16,6 +16,9 @@ pub mod numbers;
 // The longest reply.
 const MOST_BYTES: usize = 65536;
 
+// The rows of a table by value.
+const TABLE_ROWS: usize = 1024;
+
 // Row 0 is the script, the others are loops.
 pub struct Row {
     pub kind: Kind,
@@ -47,6 +50,8 @@ pub enum NextLine {
     },
     End,
 }
+
+// ---- the verdict: a pass that writes nothing
 
 // The line that starts at a place. Bytes after the last newline are no line.
 fn next_line(reply: &[u8], at: usize) -> NextLine
@@ -109,7 +114,9 @@ pub fn judge_reply(reply: &[u8], n: usize) -> Answer
     judge(reply, n)
 }
 
-// A line of a reply that is known to be good, and where the next one starts.
+// ---- the second pass, over a reply that is known to be good: a turn a line
+
+// A line, and where the next one starts.
 pub struct Seen {
     pub line: Line,
     pub next: usize,
@@ -296,7 +303,9 @@ fn take_turn(reply: &[u8], st: Stand, old: Row) -> Turn
     }
 }
 
-// The whole: the verdict first, by a pass that writes nothing; then one store a line.
+// ---- rows
+
+// The whole: the verdict first, then one store a line.
 pub fn read_reply(reply: &[u8], rows: &mut [Row]) -> Answer
     ensures { λ r. ⌜ ReadRows (now (reply .entry)) (now (rows .entry)) r (now (rows .exit)) ⌝ }
 {
@@ -314,7 +323,7 @@ pub fn read_reply(reply: &[u8], rows: &mut [Row]) -> Answer
 
 // What a table of 1,024 rows holds after a reply is read into it.
 pub struct Table {
-    pub rows: [Row; 1024],
+    pub rows: [Row; TABLE_ROWS],
     pub answer: Answer,
 }
 
@@ -322,7 +331,7 @@ pub struct Table {
 pub fn read_table(reply: &[u8]) -> Table
     ensures { λ r. ⌜ tableMeaning r ≡ readTable (now (reply .entry)) ⌝ }
 {
-    let mut rows = [SCRIPT_ROW; 1024];
+    let mut rows = [SCRIPT_ROW; TABLE_ROWS];
     let answer = read_reply(reply, &mut rows);
     Table {
         rows: rows,
@@ -334,12 +343,14 @@ pub fn read_table(reply: &[u8]) -> Table
 pub fn row_of(table: Table, at: usize) -> Row
     ensures { λ r. ⌜ r ≡ getD (table .rows) at scriptRow ⌝ }
 {
-    if at < 1024 {
+    if at < TABLE_ROWS {
         table.rows[at]
     } else {
         SCRIPT_ROW
     }
 }
+
+// ---- lines
 
 // A reader of lines: it stands over a lent reply, at the place where the next line starts.
 pub struct LineReader<'a> {

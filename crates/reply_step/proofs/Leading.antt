@@ -1,20 +1,17 @@
 -- What a line is that leads on, and what is open after it; what a line is that ends the reply. Assumes nothing.
 use mathlib.Core.Bool.{Bool, true, false, cond}
 use mathlib.Core.Path.{_≡_, refl}
-use native.Mathlib.Omega.{arith}
 use Prim.Native.Nat.{ℕ, _<_}
 use borrow.Author.Tests.{ltb-true}
 use lib.Dec.{leb, ltb}
 use lib.ListN.{length}
+use Rattle.laws.proofs.Apart.{apart}
 use Rattle.reply_line.specs.declared.Line.{Line}
 use Rattle.reply_line.specs.declared.Line.the-variants as Line
 use Rattle.reply_line.specs.declared.Refusal.{Refusal}
 use Rattle.reply_line.specs.declared.Refusal.the-variants as Refusal
 use Rattle.reply_step.specs.declared.Move.the-variants as Move
 use Rattle.reply_step.specs.Step.{Open, goes, refused, closes, opened, closed, step}
-
-apart : _≡_ {A = ℕ} 0 1 → ⊥
-apart z = omega arith
 
 pub refused-not-on : {r : Refusal} → Move.Refused r ≡ Move.On → ⊥
 refused-not-on e = apart cc

@@ -1,8 +1,6 @@
 -- `read_reply` meets its contract: a walk of its MIR, by hand, with a loop. The borrow of the rows is opened once,
--- before
--- the loop, and closed once, after it. In between the rows are the function's own: each turn takes one out, and puts
--- one
--- in. Assumes nothing.
+-- before the loop, and closed once, after it. In between the rows are the function's own: each turn takes one out, and
+-- puts one in. Assumes nothing.
 use mathlib.Core.Path.{_≡_, refl, sym, _∙_, ap, subst}
 use Prim.Native.Nat.{ℕ, _<_, _^_, _*_, _-_}
 use native.Mathlib.Omega.{arith}
@@ -53,7 +51,6 @@ use denote.Triple.Walked.{says, Stays, stay-none-slice, stay-slice, walkOf, goes
 use denote.Triple.Walked.{walked, walk-meets}
 use denote.Exit.{yes}
 use denote.Signature.{plain}
-use Rattle.reply.specs.declared.Answer.{Answer}
 use Rattle.reply.specs.declared.Row.{Row}
 use Rattle.reply.specs.declared.Stand.{Stand}
 use Rattle.reply.specs.declared.Turn.{Turn}
@@ -61,8 +58,9 @@ use Rattle.reply.specs.Code.{startIn, placeIn, turned, table}
 use Rattle.reply.specs.Rows.{scriptRow}
 use Rattle.reply.proofs.Coming.{Come, come-first, come-on, come-less, come-end, come-says}
 use Rattle.reply.proofs.Over.{table-is}
+use Rattle.reply.proofs.Tabled.{mach, an-mach, typed}
 use Rattle.reply.proofs.Turns.{place-below}
-use Rattle.laws.proofs.Walk.{Of, call-fn, ty, after, unset, holds}
+use Rattle.laws.proofs.Walk.{Of, call-fn, ty, after, unset, holds, spot, read-local}
 use Rattle.reply.proofs.Row as T
 use Rattle.reply.proofs.Row.Laws as T′
 use Rattle.reply.proofs.Stand as St
@@ -93,17 +91,11 @@ abbrev stayed : Stays (f.ended .signature .params) (f.ended .kept)
 stayed = (stay-none-slice (0 ∷ []) tt (plain (λ _. u8)) yes, (stay-slice (1 ∷ []) tt (plain (λ _. T.the-row)), tt))
 
 -- ---- machine values
-abbrev mach : Row → Val
-mach r = only (LL.vals T.the-type T′.the-laws r)
-
 abbrev st-mach : Stand → Val
 st-mach st = only (LL.vals St.the-type St′.the-laws st)
 
 abbrev tn-mach : Turn → Val
 tn-mach t = only (LL.vals Tn.the-type Tn′.the-laws t)
-
-abbrev an-mach : Answer → Val
-an-mach v = only (EL.vals An.the-type An′.the-laws v)
 
 -- ---- where the loop stands: the state and the rows, of which what is left to do makes what the whole is to make
 
@@ -197,10 +189,7 @@ module _ {M : Type 1} (𝓤 : URA M) (H : Heap 𝓤) (A : Atoms 𝓤) (W : Given
   abbrev Lent : Item 𝓤
   Lent = (‵ (flft μ p) ⊛ ‵ ftrue) ⊛ ‵ Own
 
-  -- a row's, a stand's, a turn's and an answer's machine value has its MIR type
-  typed : (v : Row) → Is T.the-row v (mach v ∷ []) → Holds (hasTy T′.mir (mach v)) × WT (mach v)
-  typed v g = LL.lawful T.the-type T′.the-laws 𝓤 H A W .typed v _ g .0
-
+  -- a stand's, a turn's and an answer's machine value has its MIR type
   st-typed : (v : Stand) → Is St.the-row v (st-mach v ∷ []) → Holds (hasTy St′.mir (st-mach v)) × WT (st-mach v)
   st-typed v g = LL.lawful St.the-type St′.the-laws 𝓤 H A W .typed v _ g .0
 
@@ -327,41 +316,40 @@ module _ {M : Type 1} (𝓤 : URA M) (H : Heap 𝓤) (A : Atoms 𝓤) (W : Given
       goes-on t less =
           nothing ! $ call-fn ! fm place-in.ended (place-in.clauses 𝓤 H A mem run) known-place (to-place (t .st))
           (‵ ftrue) (‵ ftrue) (asks-place (t .st) (t .good) (room .0)) (fst∗ 𝓤 (emp 𝓤) (emp 𝓤)) (at t less)
-          (vint w64 (at t less)) (λ u is. is .0) (λ v e. id⊢ 𝓤 _)
-          (and-then ! (load ! (from ! (stop !)) (look ! 23 refl))
-          (and-then ! (load ! (from ! (stop !)) (look ! 25 refl)) (no-more !))) (λ ga.
-          land ! (from ! (stop !)) (init ! 20 refl (tt, record { fits = ga .1 })) $ drop ! $
-          assigns ! (bin ! (load ! (from ! (stop !)) (look ! 19 refl)) (lit ! tt) (record { fits = scaled t less }))
-          (from ! (stop !)) (init ! 11 refl (tt, record { fits = scaled t less })) $
+          (vint w64 (at t less)) (λ u is. is .0) (λ v e. id⊢ 𝓤 _) (and-then ! (read-local ! 23 refl)
+          (and-then ! (read-local ! 25 refl) (no-more !))) (λ ga.
+          land ! (spot !) (init ! 20 refl (tt, record { fits = ga .1 })) $ drop ! $
+          assigns ! (bin ! (read-local ! 19 refl) (lit ! tt) (record { fits = scaled t less }))
+          (spot !) (init ! 11 refl (tt, record { fits = scaled t less })) $
           assigns ! (bin ! (load ! (from ! (fld ! refl (stop !))) (look-in ! 25 (sub ! 0 refl (whole !))))
-          (load ! (from ! (stop !)) (look ! 11 refl)) tt) (from ! (stop !)) (init ! 9 refl (tt, tt)) $
+          (read-local ! 11 refl) tt) (spot !) (init ! 9 refl (tt, tt)) $
           rewrite ! 9 (λ (m : ℕ). ‵ (fat fullShare (ty code.function 10) l₁₀ 0 (vptr b m)))
           (sym (place-is 24 o (at t less))) refl $
           move ! (1 ∷ []) $ elem-out ! T.the-row (Is T.the-row) (shows 𝓤 H A T.the-row) (LL.vals T.the-type T′.the-laws)
           (LL.tells T.the-type T′.the-laws) fullShare (t .ys) (at t less) scriptRow b o (below t less) (λ go.
           -- [rows[at]; what it owns; the others; what is lent; the open borrow; obs; auth; _12; …; _0; …]
-          assigns ! (of-opd ! (load ! (from ! (hop ! (look ! 11 refl) (stop !))) (look-raw ! 0 refl))) (from ! (stop !))
-          (init ! 9 refl (typed (old t less) go)) $
-          assigns ! (of-opd ! (load ! (from ! (stop !)) (look ! 9 refl))) (from ! (stop !))
-          (init ! 19 refl (typed (old t less) go)) $
+          assigns ! (of-opd ! (load ! (from ! (hop ! (look ! 11 refl) (stop !))) (look-raw ! 0 refl))) (spot !)
+          (init ! 9 refl (typed 𝓤 H A W (old t less) go)) $
+          assigns ! (of-opd ! (read-local ! 9 refl)) (spot !)
+          (init ! 19 refl (typed 𝓤 H A W (old t less) go)) $
           move ! (3 ∷ []) $
           call-fn ! fm take-turn.ended (take-turn.clauses 𝓤 H A mem run) known-turn (to-turn (t .st) (old t less)) Lent
           (‵ Own) (asks-turn (t .st) (old t less) (t .good) go) (id⊢ 𝓤 _) (tn t less) (tn-mach (tn t less))
           (λ u is. LL.tells Tn.the-type Tn′.the-laws (tn t less) (u ∷ []) is) (λ v e. id⊢ 𝓤 _)
-          (and-then ! (load ! (from ! (stop !)) (look ! 30 refl))
-          (and-then ! (load ! (from ! (stop !)) (look ! 24 refl))
-          (and-then ! (load ! (from ! (stop !)) (look ! 20 refl)) (no-more !)))) (λ gt.
-          land ! (from ! (stop !)) (init ! 17 refl (tn-typed (tn t less) gt)) $
-          assigns ! (bin ! (load ! (from ! (stop !)) (look ! 21 refl)) (lit ! tt) (record { fits = scaled t less }))
-          (from ! (stop !)) (store ! 13 refl (tt, record { fits = scaled t less })) $
+          (and-then ! (read-local ! 30 refl) (and-then ! (read-local ! 24 refl)
+          (and-then ! (read-local ! 20 refl) (no-more !)))) (λ gt.
+          land ! (spot !) (init ! 17 refl (tn-typed (tn t less) gt)) $
+          assigns ! (bin ! (read-local ! 21 refl) (lit ! tt) (record { fits = scaled t less }))
+          (spot !) (store ! 13 refl (tt, record { fits = scaled t less })) $
           assigns ! (bin ! (load ! (from ! (fld ! refl (stop !))) (look-in ! 27 (sub ! 0 refl (whole !))))
-          (load ! (from ! (stop !)) (look ! 13 refl)) tt) (from ! (stop !)) (init ! 7 refl (tt, tt)) $
+          (read-local ! 13 refl) tt) (spot !) (init ! 7 refl (tt, tt)) $
           rewrite ! 7 (λ (m : ℕ). ‵ (fat fullShare (ty code.function 12) l₁₂ 0 (vptr b m)))
           (sym (place-is 24 o (at t less))) refl $
           assigns ! (of-opd ! (load ! (from ! (fld ! refl (stop !))) (look-in ! 17 (sub ! 0 refl (whole !)))))
-          (from ! (hop ! (look ! 7 refl) (stop !))) (store-raw ! 1 refl (typed ((tn t less) .row) (row-is t less gt))) $
+          (from ! (hop ! (look ! 7 refl) (stop !)))
+          (store-raw ! 1 refl (typed 𝓤 H A W ((tn t less) .row) (row-is t less gt))) $
           assigns-last ! (of-opd ! (load ! (from ! (fld ! refl (stop !))) (look-in ! 17 (sub ! 1 refl (whole !)))))
-          (from ! (stop !)) (store ! 23 refl (st-typed ((tn t less) .next) (next-is t less gt))) $
+          (spot !) (store ! 23 refl (st-typed ((tn t less) .next) (next-is t less gt))) $
           -- the new row goes in, and the invariant holds again
           move ! (2 ∷ []) $ drop ! $ owned ! T.the-row (Is T.the-row) (LL.makes T.the-type T′.the-plain 𝓤 H A)
           ((tn t less) .row) _ (row-is t less gt) $ move ! (2 ∷ 0 ∷ 3 ∷ []) $
@@ -375,14 +363,14 @@ module _ {M : Type 1} (𝓤 : URA M) (H : Heap 𝓤) (A : Atoms 𝓤) (W : Given
       unfolding afterTurn
       turns t =
           assigns ! (bin ! (load ! (from ! (fld ! refl (stop !))) (look-in ! 21 (sub ! 0 refl (whole !))))
-          (load ! (from ! (fld ! refl (stop !))) (look-in ! 21 (sub ! 1 refl (whole !)))) tt) (from ! (stop !))
+          (load ! (from ! (fld ! refl (stop !))) (look-in ! 21 (sub ! 1 refl (whole !)))) tt) (spot !)
           (init ! 13 refl (tt, tt)) $
-          first ! $ branches ! (load ! (from ! (stop !)) (look ! 13 refl))
+          first ! $ branches ! (read-local ! 13 refl)
           (λ less. skips ! $ exec ! (𝓣 .C) (𝓣 .Λ) En (after 2 Mir.turn-1) (anyQ (Turned t)) $ goes-on t less)
           (λ over. jumps ! $ exec ! (𝓣 .C) (𝓣 .Λ) En Mir.t-4 (atRet En Post) $
           -- the loop is left: the answer is copied into the result, and the borrow is closed at the rows as they are
           assigns ! (of-opd ! (load ! (from ! (fld ! refl (stop !))) (look-in ! 21 (sub ! 6 refl (whole !)))))
-          (from ! (stop !)) (init ! 29 refl (EL.lawful An.the-type An′.the-laws 𝓤 H A W tt .typed (t .st .answer) _
+          (spot !) (init ! 29 refl (EL.lawful An.the-type An′.the-laws 𝓤 H A W tt .typed (t .st .answer) _
           (answer-at (t .st) (t .good)) .0)) $
           move ! (1 ∷ 2 ∷ 3 ∷ 4 ∷ []) $ closes-slice ! tt T.the-row ys₀ (t .ys) (t .same) b o $
           -- [obs; the borrow; κ's token; what is lent; _12; …; _0; …]
@@ -412,16 +400,15 @@ module _ {M : Type 1} (𝓤 : URA M) (H : Heap 𝓤) (A : Atoms 𝓤) (W : Given
         pass1 ! (init ! 20 refl (tt, (tt, (record { fits = room .0 }, tt)))) $ pass0 ! $
         -- [_12; …; _0; …; the tokens; what the parameters own]
         assigns ! (of-opd ! (load ! (from ! (fld ! refl (stop !))) (look-in ! 20 (sub ! 1 refl (whole !)))))
-        (from ! (stop !)) (init ! 18 refl (tt, record { fits = room .0 })) $
+        (spot !) (init ! 18 refl (tt, record { fits = room .0 })) $
         -- what is lent to the callees is put together
         move ! (27 ∷ []) $ fsplit ! $ move ! (1 ∷ []) $ fsplit ! $ fsplit ! $ move ! (1 ∷ []) $ fsplit ! $
         move ! (31 ∷ []) $ split ! $ move ! (1 ∷ []) $ split ! $ move ! (2 ∷ 1 ∷ []) $ join ! $ move ! (0 ∷ 6 ∷ []) $
         join ! $
         call-fn ! fm begin.ended (begin.clauses 𝓤 H A mem run) known-begin to-begin Lent (‵ Own) (asks-begin (room .0))
         (id⊢ 𝓤 _) start (st-mach start) (λ u is. LL.tells St.the-type St′.the-laws start (u ∷ []) is) (λ v e. id⊢ 𝓤 _)
-        (and-then ! (load ! (from ! (stop !)) (look ! 29 refl))
-        (and-then ! (load ! (from ! (stop !)) (look ! 25 refl)) (no-more !))) (λ g.
-        land ! (from ! (stop !)) (init ! 22 refl (st-typed start g)) $
+        (and-then ! (read-local ! 29 refl) (and-then ! (read-local ! 25 refl) (no-more !))) (λ g.
+        land ! (spot !) (init ! 22 refl (st-typed start g)) $
         -- the borrow of the rows is opened
         move ! (2 ∷ 3 ∷ 1 ∷ []) $
         opens-slice ! tt T.the-row ys₀ b o $

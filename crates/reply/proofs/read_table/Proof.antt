@@ -20,7 +20,7 @@ use contract.Monad.{Fun, fact}
 use contract.Running.{givenOf, tables, tablesOf}
 use types.Kit.{Given, given, some, later, use3, pick, learn, await, ‵, raw, _⊛_, ⋆, _$_, _∵_, !, qed}
 use types.Kit.{by, move, keep, drop, use1, use2, split, join, rewrite, fsplit, fjoin, suffices, frame, done}
-use types.Run.{look, init, forget, stop, from, load, lit, addr, of-opd, and-then, no-more, assigns, land, returns}
+use types.Run.{look, init, forget, lit, addr, of-opd, and-then, no-more, assigns, land, returns}
 use types.Run.{enter, alloc1, alloc0, params1, pass1, pass0, free1, free0}
 use types.Part.{agg, rep}
 use sound.WpLaws.{FmC, fmOf, WpFn-mono}
@@ -51,7 +51,7 @@ use Rattle.reply.specs.declared.Answer.{Answer}
 use Rattle.reply.specs.declared.Row.{Row}
 use Rattle.reply.specs.Reply.{outcomeOf}
 use Rattle.reply.specs.Rows.{scriptRow, ReadRows, tableMeaning, readTable}
-use Rattle.laws.proofs.Walk.{ty, big-lit}
+use Rattle.laws.proofs.Walk.{ty, big-lit, spot, read-local}
 use Rattle.laws.proofs.Lend.{lends-array, array-back}
 use Rattle.reply.proofs.Tabled.{R, mach, an-mach, arr, arr-tells, tb, tb-mach, made, an-is, typed, arr-typed}
 use Rattle.reply.proofs.Tabled.{tb-typed}
@@ -182,20 +182,20 @@ module _ {M : Type 1} (𝓤 : URA M) (H : Heap 𝓤) (A : Atoms 𝓤) (W : Given
         alloc1 ! (λ l₅. alloc1 ! (λ l₆. alloc1 ! (λ l₇. alloc1 ! (λ l₈. alloc0 ! $
         params1 ! $ pass1 ! (init ! 14 refl (tt, (tt, (record { fits = reply-room .0 }, tt)))) $ pass0 ! $
         -- [_8; …; _0; …; the token; what the reply's slice owns]: the array is made
-        assigns ! (agg ! (and-then ! (lit ! tt) (no-more !))) (from ! (stop !))
+        assigns ! (agg ! (and-then ! (lit ! tt) (no-more !))) (spot !)
         (init ! 8 refl (EL.lawful K.the-type K′.the-laws 𝓤 H A W tt .typed Kind.Script _ kind-good .0)) $
-        assigns ! (agg ! (and-then ! (load ! (from ! (stop !)) (look ! 8 refl))
-        (and-then ! (lit ! tt) (and-then ! (lit ! tt) (and-then ! (lit ! tt) (no-more !)))))) (from ! (stop !))
+        assigns ! (agg ! (and-then ! (read-local ! 8 refl)
+        (and-then ! (lit ! tt) (and-then ! (lit ! tt) (and-then ! (lit ! tt) (no-more !)))))) (spot !)
         (init ! 6 refl (typed 𝓤 H A W scriptRow row-good)) $
         owned ! T.the-row (Is T.the-row) (LL.makes T.the-type T′.the-plain 𝓤 H A) scriptRow _ row-good $
         use1 W (‵ (Array R 1024 .own xs (xs-v ∷ []))) (array-repeat 𝓤 H A W R
         (LL.copy T.the-type T′.the-copy 𝓤 H A W) 1024 scriptRow (mach scriptRow)) $
         peeks ! (Array R 1024) (Is (Array R 1024)) (shows 𝓤 H A (Array R 1024)) xs (xs-v ∷ []) (λ gx.
-        assigns ! (rep ! 1024 (load ! (from ! (stop !)) (look ! 7 refl))) (from ! (stop !))
+        assigns ! (rep ! 1024 (read-local ! 7 refl)) (spot !)
         (init ! 13 refl (arr-typed 𝓤 H A W xs xs-v gx)) $
-        assigns ! (addr ! (from ! (stop !))) (from ! (stop !)) (init ! 5 refl (tt, tt)) $
-        assigns ! (agg ! (and-then ! (load ! (from ! (stop !)) (look ! 5 refl))
-        (and-then ! (big-lit ! (record { fits = lit< tt })) (no-more !)))) (from ! (stop !))
+        assigns ! (addr ! (spot !)) (spot !) (init ! 5 refl (tt, tt)) $
+        assigns ! (agg ! (and-then ! (read-local ! 5 refl)
+        (and-then ! (big-lit ! (record { fits = lit< tt })) (no-more !)))) (spot !)
         (init ! 3 refl (tt, (tt, (record { fits = lit< tt }, tt)))) $
         -- it is lent for a lifetime ν of the call
         lft-new ! tt (λ ν. move ! (14 ∷ 1 ∷ []) $
@@ -211,9 +211,8 @@ module _ {M : Type 1} (𝓤 : URA M) (H : Heap 𝓤) (A : Atoms 𝓤) (W : Given
         split ! $ move ! (7 ∷ 1 ∷ []) $ join ! $ move ! (1 ∷ 0 ∷ []) $ join ! $ move ! (0 ∷ 1 ∷ 4 ∷ []) $
         use3 W (raw (Read 𝓤 H A mem run .pre (to-read l₂ ν γ))) (asks-read l₂ ν γ) $
         -- [what `read_reply` asks; the reply's; true; the lender's part; _8; …; _0; …]
-        calls-at ! fm (Read 𝓤 H A mem run) known (to-read l₂ ν γ)
-        (and-then ! (load ! (from ! (stop !)) (look ! 17 refl))
-        (and-then ! (load ! (from ! (stop !)) (look ! 6 refl)) (no-more !))) (λ w.
+        calls-at ! fm (Read 𝓤 H A mem run) known (to-read l₂ ν γ) (and-then ! (read-local ! 17 refl)
+        (and-then ! (read-local ! 6 refl) (no-more !))) (λ w.
         use1 W (later (some (λ (v : Answer). ((‵ (flft μ p) ⊛
         (‵ (flft (ν ∷ []) fullShare) ⊛ ‵ ftrue)) ⊛ ‵
         (An.the-row .own v (w ∷ []))) ⊛ raw (ensured 𝓤 H A rr.ended (rr.clauses 𝓤 H A mem run)
@@ -230,7 +229,7 @@ module _ {M : Type 1} (𝓤 : URA M) (H : Heap 𝓤) (A : Atoms 𝓤) (W : Given
         -- [the last list; true; the tokens and the result; the reply's; true; the lender's part; _8; …; _0; …]
         move ! (2 ∷ []) $ split ! $ move ! (1 ∷ []) $
         peeks ! An.the-row (Is An.the-row) (shows 𝓤 H A An.the-row) v (w ∷ []) (λ is₀. drop ! $
-        land ! (from ! (stop !))
+        land ! (spot !)
         (init ! 16 refl (EL.lawful An.the-type An′.the-laws 𝓤 H A W tt .typed v _ is₀ .0)) $
         rewrite ! 16 (λ (u : Val). ‵ (fat fullShare (ty code.function 3) l₃ 0 u))
         (ap only (EL.tells An.the-type An′.the-laws v _ is₀)) refl $
@@ -243,10 +242,9 @@ module _ {M : Type 1} (𝓤 : URA M) (H : Heap 𝓤) (A : Atoms 𝓤) (W : Given
         (arr-tells (zs .1 .0))) $
         await ! tt $ learn ! (λ gz.
         -- [_2; the token; true; the reply's; true; _8; …; _0; …]
-        assigns ! (of-opd ! (load ! (from ! (stop !)) (look ! 0 refl))) (from ! (stop !))
+        assigns ! (of-opd ! (read-local ! 0 refl)) (spot !)
         (init ! 5 refl (arr-typed 𝓤 H A W (zs .1 .0) (arr (zs .1 .0)) gz)) $
-        assigns ! (agg ! (and-then ! (load ! (from ! (stop !)) (look ! 5 refl))
-        (and-then ! (load ! (from ! (stop !)) (look ! 15 refl)) (no-more !)))) (from ! (stop !))
+        assigns ! (agg ! (and-then ! (read-local ! 5 refl) (and-then ! (read-local ! 15 refl) (no-more !)))) (spot !)
         (init ! 20 refl (tb-typed 𝓤 H A W (zs .1 .0) v (made (zs .1 .0) v gz (an-is v w is₀)))) $
         returns ! (look ! 20 refl) $ forget ! 0 refl $ forget ! 5 refl $ forget ! 7 refl $ forget ! 9 refl $
         forget ! 11 refl $ forget ! 13 refl $ forget ! 15 refl $ forget ! 18 refl $ forget ! 20 refl $

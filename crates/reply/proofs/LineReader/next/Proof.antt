@@ -49,7 +49,7 @@ use denote.Signature.{Slot, plain, namedLft}
 use Rattle.reply.specs.declared.LineReader.{LineReader}
 use Rattle.reply.specs.declared.NextLine.{NextLine}
 use Rattle.reply.specs.Lines.{nextLine, placeAfter}
-use Rattle.laws.proofs.Walk.{Of, call-fn}
+use Rattle.laws.proofs.Walk.{Of, call-fn, spot, read-local}
 use Rattle.reply.proofs.LineReader as T
 use Rattle.reply.proofs.LineReader.Laws as T′
 use Rattle.reply.proofs.NextLine as Ln
@@ -58,10 +58,10 @@ use Rattle.reply.proofs.LineReader.next.Key.{name as #reply·next}
 use Rattle.reply.proofs.LineReader.next as f
 use Rattle.reply.proofs.LineReader.next.Statement as stated
 use Rattle.reply.proofs.LineReader.next.Code as code
-use Rattle.reply.proofs.next_line as line-at
-use Rattle.reply.proofs.next_line.Symbol as line-at-def
+use Rattle.reply.proofs.next_line as next-line
+use Rattle.reply.proofs.next_line.Symbol as next-line-def
 use Rattle.reply.proofs.next_line.Symbol.{name as #reply·next-line}
-use Rattle.reply.proofs.next_line.Met as line-at-thm
+use Rattle.reply.proofs.next_line.Met as next-line-thm
 use Rattle.reply.proofs.place_after as after
 use Rattle.reply.proofs.place_after.Symbol as after-def
 use Rattle.reply.proofs.place_after.Symbol.{name as #reply·place-after}
@@ -146,15 +146,15 @@ module _ {M : Type 1} (𝓤 : URA M) (H : Heap 𝓤) (A : Atoms 𝓤) (W : Given
       fjoin ! $ frame ! $ owned ! Ln.the-row (Is Ln.the-row) (EL.makes Ln.the-type Ln′.the-plain 𝓤 H A) found _ gl $
       done !
 
-  -- what `line_at` is handed: the slice out of the struct, of which a copy is kept
+  -- what `next_line` is handed: the slice out of the struct, of which a copy is kept
   abbrev Lent : Item 𝓤
   Lent = (‵ (flft κ′ q′) ⊛ ‵ ftrue) ⊛ ‵ Own
 
-  abbrev to-line : Of 𝓤 H A line-at.ended (line-at.clauses 𝓤 H A mem run) .Ghost
+  abbrev to-line : Of 𝓤 H A next-line.ended (next-line.clauses 𝓤 H A mem run) .Ghost
   to-line = (((κ′, tt), (q′, tt), tt, (h .reply, (h .at, tt)), (v ∷ [], (vint w64 (h .at) ∷ [], tt))), tt)
 
   asks-line : h .at < 2 ^ 64 → ent 𝓤 (Kit.mean 𝓤 H A Lent)
-      (sep 𝓤 (Of 𝓤 H A line-at.ended (line-at.clauses 𝓤 H A mem run) .pre to-line) (sem 𝓤 H A Own))
+      (sep 𝓤 (Of 𝓤 H A next-line.ended (next-line.clauses 𝓤 H A mem run) .pre to-line) (sem 𝓤 H A Own))
   asks-line fits =
       qed W (Lent ∷ []) ∵ split ! $ move ! (1 ∷ []) $
       use1 W (‵ Own ⊛ ‵ Own) (LL.copy D (T′.the-copy (α κ′)) 𝓤 H A W .twice h (mach ∷ [])) $ split ! $
@@ -178,7 +178,7 @@ module _ {M : Type 1} (𝓤 : URA M) (H : Heap 𝓤) (A : Atoms 𝓤) (W : Given
       join ! $ join ! $ frame ! $ done !
 
   module _ (C : Calls 𝓤 H) (Λ : Loops 𝓤 H) (fm : FmC 𝓤 H (W .laws) C)
-      (known-line : Triple 𝓤 (C #reply·next-line) (tripleOf 𝓤 H A line-at.signature (line-at.spec 𝓤 H A mem run)))
+      (known-line : Triple 𝓤 (C #reply·next-line) (tripleOf 𝓤 H A next-line.signature (next-line.spec 𝓤 H A mem run)))
       (known-after : Triple 𝓤 (C #reply·place-after) (tripleOf 𝓤 H A after.signature (after.spec 𝓤 H A mem run))) where
     walk : ent 𝓤 (onEntry 𝓤 H A f.signature (κ, (κ′, tt)) (q, (q′, tt)) x at)
         (WpFn 𝓤 H C Λ code.function (vptr b o ∷ []) Post)
@@ -194,32 +194,28 @@ module _ {M : Type 1} (𝓤 : URA M) (H : Heap 𝓤) (A : Atoms 𝓤) (W : Given
         move ! (1 ∷ []) $ peeks ! (B κ′) (Is (B κ′)) (shows 𝓤 H A (B κ′)) h (mach ∷ [])
         (λ was. move ! (1 ∷ 0 ∷ []) $ use1 W (‵ (fat fullShare (T′.mir erased) b o mach))
         (W .laws .raw-at fullShare (T′.mir erased) b o mach) $
-        -- [the struct's cell; what a LineReader owns; the open borrow; obs; auth; 'a's token; true; _5; …; room for _0;
-        -- …]
+        -- [the struct's cell; what it owns; the open borrow; obs; auth; 'a's token; true; _5; …; room for _0; …]
         assigns ! (of-opd ! (load ! (from ! (hop ! (look ! 15 refl) (fld ! refl (stop !))))
-        (look-in ! 0 (sub ! 1 refl (whole !))))) (from ! (stop !))
+        (look-in ! 0 (sub ! 1 refl (whole !))))) (spot !)
         (init ! 13 refl (tt, record { fits = was .1 .1 .1 .0 .1 })) $
         assigns ! (of-opd ! (load ! (from ! (hop ! (look ! 15 refl) (fld ! refl (stop !))))
-        (look-in ! 0 (sub ! 0 refl (whole !))))) (from ! (stop !))
+        (look-in ! 0 (sub ! 0 refl (whole !))))) (spot !)
         (init ! 9 refl (tt, (tt, (record { fits = was .1 .1 .0 .0 .1 .0 }, tt)))) $
         move ! (5 ∷ 1 ∷ []) $ join ! $
         -- [what is lent; the struct's cell; the open borrow; obs; auth; true; _5; …; room for _0; …]
-        call-fn ! fm line-at.ended (line-at.clauses 𝓤 H A mem run) known-line to-line Lent (‵ Own)
+        call-fn ! fm next-line.ended (next-line.clauses 𝓤 H A mem run) known-line to-line Lent (‵ Own)
         (asks-line (was .1 .1 .1 .0 .1)) (id⊢ 𝓤 _) found (ln-mach found)
-        (λ u is. EL.tells Ln.the-type Ln′.the-laws found (u ∷ []) is) (λ r e. id⊢ 𝓤 _)
-        (and-then ! (load ! (from ! (stop !)) (look ! 9 refl))
-        (and-then ! (load ! (from ! (stop !)) (look ! 13 refl)) (no-more !))) (λ gl.
-        land ! (from ! (stop !)) (init ! 10 refl (EL.lawful Ln.the-type Ln′.the-laws 𝓤 H A W tt .typed found _ gl .0)) $
+        (λ u is. EL.tells Ln.the-type Ln′.the-laws found (u ∷ []) is) (λ r e. id⊢ 𝓤 _) (and-then ! (read-local ! 9 refl)
+        (and-then ! (read-local ! 13 refl) (no-more !))) (λ gl.
+        land ! (spot !) (init ! 10 refl (EL.lawful Ln.the-type Ln′.the-laws 𝓤 H A W tt .typed found _ gl .0)) $
         nothing ! $ call-fn ! fm after.ended (after.clauses 𝓤 H A mem run) known-after to-after (‵ ftrue) (‵ ftrue)
         (asks-after (was .1 .1 .1 .0 .1) gl) (fst∗ 𝓤 (emp 𝓤) (emp 𝓤)) place (vint w64 place) (λ u is. is .0)
-        (λ r e. id⊢ 𝓤 _)
-        (and-then ! (load ! (from ! (stop !)) (look ! 12 refl))
-        (and-then ! (load ! (from ! (stop !)) (look ! 14 refl)) (no-more !))) (λ gp.
-        land ! (from ! (stop !)) (init ! 7 refl (tt, record { fits = gp .1 })) $ drop ! $
-        assigns ! (of-opd ! (load ! (from ! (stop !)) (look ! 6 refl)))
+        (λ r e. id⊢ 𝓤 _) (and-then ! (read-local ! 12 refl) (and-then ! (read-local ! 14 refl) (no-more !))) (λ gp.
+        land ! (spot !) (init ! 7 refl (tt, record { fits = gp .1 })) $ drop ! $
+        assigns ! (of-opd ! (read-local ! 6 refl))
         (from ! (hop ! (look ! 14 refl) (fld ! refl (stop !))))
         (store-in ! 1 (sub ! 1 refl (whole !)) (tt, record { fits = gp .1 })) $
-        assigns ! (of-opd ! (load ! (from ! (stop !)) (look ! 10 refl))) (from ! (stop !))
+        assigns ! (of-opd ! (read-local ! 10 refl)) (spot !)
         (init ! 16 refl (EL.lawful Ln.the-type Ln′.the-laws 𝓤 H A W tt .typed found _ gl .0)) $
         split ! $ move ! (1 ∷ []) $ use1 W (‵ (B κ′ .own h′ (T′.lowered h′ ∷ []))) (again (gp .1)) $ move ! (2 ∷ []) $
         use1 W (‵ (cellAt fullShare (B κ′ .mir) (T′.lowered h′ ∷ []) b o))
@@ -234,7 +230,7 @@ module _ {M : Type 1} (𝓤 : URA M) (H : Heap 𝓤) (A : Atoms 𝓤) (W : Given
 
 next-meets : {M : Type 1} (𝓤 : URA M) (H : Heap 𝓤) (A : Atoms 𝓤) → Given 𝓤 H A
     → (mem : Memory → SProp 𝓤) (run : Routine → Fun 𝓤) (𝓣 : Tables 𝓤 H)
-    → Triple 𝓤 (𝓣 .C #reply·next-line) (tripleOf 𝓤 H A line-at.signature (line-at.spec 𝓤 H A mem run))
+    → Triple 𝓤 (𝓣 .C #reply·next-line) (tripleOf 𝓤 H A next-line.signature (next-line.spec 𝓤 H A mem run))
     → Triple 𝓤 (𝓣 .C #reply·place-after) (tripleOf 𝓤 H A after.signature (after.spec 𝓤 H A mem run))
     → Meets 𝓤 H A f.signature (WpFn 𝓤 H (𝓣 .C) (𝓣 .Λ) code.function) (f.spec 𝓤 H A mem run)
 next-meets 𝓤 H A W mem run 𝓣 known-line known-after =
@@ -252,7 +248,7 @@ next-spec 𝓤 H 𝓜 𝓖 𝓡 =
     entered 𝓤 H (tripleOf 𝓤 H (𝓖 .A) f.signature (f.spec 𝓤 H (𝓖 .A) (𝓜 .mem) (𝓡 .run)))
     (tables 𝓤 H 𝓜 𝓡 code.env .C) (tables 𝓤 H 𝓜 𝓡 code.env .Λ) #reply·next code.function (code.unfolded 𝓤 H 𝓜 𝓡)
     (next-meets 𝓤 H (𝓖 .A) (givenOf 𝓤 H 𝓜 𝓖) (𝓜 .mem) (𝓡 .run) (tablesOf 𝓤 H 𝓜 (tables 𝓤 H 𝓜 𝓡 code.env))
-    (cited 𝓤 H (tripleOf 𝓤 H (𝓖 .A) line-at.signature (line-at.spec 𝓤 H (𝓖 .A) (𝓜 .mem) (𝓡 .run))) 𝓜 𝓡 code.env
-    #reply·next-line line-at-def.routine code.calls-reply·next-line (line-at-thm.met 𝓤 H 𝓜 𝓖 𝓡))
+    (cited 𝓤 H (tripleOf 𝓤 H (𝓖 .A) next-line.signature (next-line.spec 𝓤 H (𝓖 .A) (𝓜 .mem) (𝓡 .run))) 𝓜 𝓡 code.env
+    #reply·next-line next-line-def.routine code.calls-reply·next-line (next-line-thm.met 𝓤 H 𝓜 𝓖 𝓡))
     (cited 𝓤 H (tripleOf 𝓤 H (𝓖 .A) after.signature (after.spec 𝓤 H (𝓖 .A) (𝓜 .mem) (𝓡 .run))) 𝓜 𝓡 code.env
     #reply·place-after after-def.routine code.calls-reply·place-after (after-thm.met 𝓤 H 𝓜 𝓖 𝓡)))
