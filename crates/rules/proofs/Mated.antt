@@ -15,7 +15,8 @@ use Rattle.table.specs.Uses.{Kinds, lowest}
 use Rattle.table.specs.Shape.{itemsOf, inShape}
 use Rattle.mates.specs.declared.Open.{Open}
 use Rattle.mates.specs.Mates.{fitsTop, scan, scanAll, belongs, closeFrom, itemAt}
-use Rattle.rules.specs.Check.{State, kindsOf, isEmpty, misplaced, refusals, refusalsAtEnd, Verdict, accepted, refused, orGo, walk, atLine, walked, verdict}
+use Rattle.rules.specs.Check.{State, kindsOf, isEmpty, misplaced, refusals, refusalsAtEnd, Verdict, accepted}
+use Rattle.rules.specs.Check.{refused, orGo, walk, atLine, walked, verdict}
 use Rattle.rules.specs.Mated.{isFound, Mated}
 use Rattle.rules.proofs.Rows.{no-refusal, no-refusal-at-end}
 use Rattle.rules.proofs.Placed.{Box, Placed, atStart, placed, plains, bare, after, same-walk}
@@ -33,7 +34,8 @@ opensOf [] = []
 opensOf (b ∷ bs) = record { at = b .at; sort = b .sort } ∷ opensOf bs
 
 -- an item that is not misplaced leaves the boxes open that the text leaves open
-same-open : (i : ℕ) (s : Placed) (x : Item) → misplaced x (plains (s .boxes)) ≡ false → opensOf (after i s x .boxes) ≡ scan i x (opensOf (s .boxes))
+same-open : (i : ℕ) (s : Placed) (x : Item) → misplaced x (plains (s .boxes)) ≡ false
+    → opensOf (after i s x .boxes) ≡ scan i x (opensOf (s .boxes))
 same-open i s (act a) e = refl
 same-open i s (pack p) e = refl
 same-open i s (opens h) e = refl
@@ -57,7 +59,8 @@ same-open i s tag e = refl
 
 -- ---- a mark that is not misplaced belongs to the innermost open box
 
-belongs-inner : (x : Item) (bs : List Box) → misplaced x (plains bs) ≡ false → (isBranch x || isClose x) ≡ true → fitsTop x (opensOf bs) ≡ true
+belongs-inner : (x : Item) (bs : List Box) → misplaced x (plains bs) ≡ false → (isBranch x || isClose x) ≡ true
+    → fitsTop x (opensOf bs) ≡ true
 belongs-inner x [] e m = no (sym (left-true (isBranch x || isClose x) _ m) ∙ e)
   where
     left-true : (a b : Bool) → a ≡ true → (a || b) ≡ true
@@ -91,7 +94,8 @@ still p i (opens a) st f e h = or-right (eqb i p) (hasAt p st) h
     or-right false b h = h
 still p i (branch a) st f e h = h
 still p i (closes a) [] f e h = no (sym h)
-still p i (closes a) (o ∷ st) f e h = rw (f refl) (other (fits (closes a) (o .sort)) (eqb (o .at) p) (hasAt p st) (f refl) e h)
+still p i (closes a) (o ∷ st) f e h =
+    rw (f refl) (other (fits (closes a) (o .sort)) (eqb (o .at) p) (hasAt p st) (f refl) e h)
   where
     other : (g b r : Bool) → g ≡ true → (g && b) ≡ false → (b || r) ≡ true → r ≡ true
     other true true r k d h = no d
@@ -102,27 +106,32 @@ still p i tag st f e h = h
 
 module _ (k : Kinds) where
   -- one item of an accepted row
-  one : (i : ℕ) (s : Placed) (x : Item) (xs : List Item) → walk k i (bare s) (x ∷ xs) ≡ accepted → (misplaced x (plains (s .boxes)) ≡ false) × (walk k (suc i) (bare (after i s x)) xs ≡ accepted)
+  one : (i : ℕ) (s : Placed) (x : Item) (xs : List Item) → walk k i (bare s) (x ∷ xs) ≡ accepted
+      → (misplaced x (plains (s .boxes)) ≡ false) × (walk k (suc i) (bare (after i s x)) xs ≡ accepted)
   one i s x xs e =
       let d = orGo-accepted (lowest (refusals k (bare s) x)) i _ e in
       (no-refusal k (bare s) x (d .0) .1 .1 .0, ap (λ (z : State). walk k (suc i) z xs) (same-walk i s x) ∙ d .1)
 
   none-left : (i : ℕ) (s : Placed) (p : ℕ) → walk k i (bare s) [] ≡ accepted → hasAt p (opensOf (s .boxes)) ≡ true → ⊥
   none-left i s p e h =
-      let d : (lowest (refusalsAtEnd (bare s)) ≡ 0) × (accepted ≡ accepted) = orGo-accepted (lowest (refusalsAtEnd (bare s))) i accepted e in
+      let d : (lowest (refusalsAtEnd (bare s)) ≡ 0) × (accepted ≡ accepted) =
+      orGo-accepted (lowest (refusalsAtEnd (bare s))) i accepted e in
       nothing (s .boxes) (no-refusal-at-end (bare s) (d .0) .0) h
     where
       nothing : (bs : List Box) → not (isEmpty (plains bs)) ≡ false → hasAt p (opensOf bs) ≡ true → ⊥
       nothing [] e h = no (sym h)
       nothing (b ∷ bs) e h = no e
 
-  closed-later : (p i : ℕ) (s : Placed) (xs : List Item) → walk k i (bare s) xs ≡ accepted → hasAt p (opensOf (s .boxes)) ≡ true
+  closed-later : (p i : ℕ) (s : Placed) (xs : List Item) → walk k i (bare s) xs ≡ accepted
+      → hasAt p (opensOf (s .boxes)) ≡ true
       → isFound (closeFrom p i (opensOf (s .boxes)) xs) ≡ true
   closed-later p i s [] e h = absurd (none-left i s p e h)
   closed-later p i s (x ∷ xs) e h =
-      let d : (misplaced x (plains (s .boxes)) ≡ false) × (walk k (suc i) (bare (after i s x)) xs ≡ accepted) = one i s x xs e in
+      let d : (misplaced x (plains (s .boxes)) ≡ false) × (walk k (suc i) (bare (after i s x)) xs ≡ accepted) =
+      one i s x xs e in
       let o : opensOf (after i s x .boxes) ≡ scan i x (opensOf (s .boxes)) = same-open i s x (d .0) in
-      found-or (isClose x && belongs p x (opensOf (s .boxes))) i (closeFrom p (suc i) (scan i x (opensOf (s .boxes))) xs)
+      found-or (isClose x && belongs p x (opensOf (s .boxes))) i
+      (closeFrom p (suc i) (scan i x (opensOf (s .boxes))) xs)
       (λ n. subst (λ (st : List Open). isFound (closeFrom p (suc i) st xs) ≡ true) o
       (closed-later p (suc i) (after i s x) xs (d .1)
       (rw o (still p i x (opensOf (s .boxes)) (belongs-inner x (s .boxes) (d .0)) n h))))
@@ -132,7 +141,8 @@ module _ (k : Kinds) where
       → isFound (closeFrom i i (opensOf (s .boxes)) (x ∷ xs)) ≡ true
   opened i s (act a) xs e h = no (sym h)
   opened i s (pack a) xs e h = no (sym h)
-  opened i s (opens a) xs e h = closed-later i (suc i) (after i s (opens a)) xs (one i s (opens a) xs e .1) (rw (eq-eqb i i refl))
+  opened i s (opens a) xs e h =
+      closed-later i (suc i) (after i s (opens a)) xs (one i s (opens a) xs e .1) (rw (eq-eqb i i refl))
   opened i s (branch a) xs e h = no (sym h)
   opened i s (closes a) xs e h = no (sym h)
   opened i s breakloop xs e h = no (sym h)
@@ -141,20 +151,25 @@ module _ (k : Kinds) where
   -- ---- at any place of an accepted row that starts at item i in s
 
   inner-at : (j i : ℕ) (s : Placed) (xs : List Item) → walk k i (bare s) xs ≡ accepted → j < length xs
-      → (isBranch (itemAt xs j) || isClose (itemAt xs j)) ≡ true → fitsTop (itemAt xs j) (scanAll i (opensOf (s .boxes)) (take j xs)) ≡ true
+      → (isBranch (itemAt xs j) || isClose (itemAt xs j)) ≡ true
+      → fitsTop (itemAt xs j) (scanAll i (opensOf (s .boxes)) (take j xs)) ≡ true
   inner-at j i s [] e h m = absurd (not-suc-le-zero h)
   inner-at zero i s (x ∷ xs) e h m = belongs-inner x (s .boxes) (one i s x xs e .0) m
   inner-at (suc j) i s (x ∷ xs) e h m =
-      subst (λ (st : List Open). fitsTop (itemAt xs j) (scanAll (suc i) st (take j xs)) ≡ true) (same-open i s x (one i s x xs e .0))
+      subst (λ (st : List Open). fitsTop (itemAt xs j) (scanAll (suc i) st (take j xs)) ≡ true)
+      (same-open i s x (one i s x xs e .0))
       (inner-at j (suc i) (after i s x) xs (one i s x xs e .1) (le-of-suc-le-suc h) m)
 
-  closing-at : (j i : ℕ) (s : Placed) (xs : List Item) → walk k i (bare s) xs ≡ accepted → j < length xs → isOpen (itemAt xs j) ≡ true
+  closing-at : (j i : ℕ) (s : Placed) (xs : List Item) → walk k i (bare s) xs ≡ accepted → j < length xs
+      → isOpen (itemAt xs j) ≡ true
       → isFound (closeFrom (j + i) (j + i) (scanAll i (opensOf (s .boxes)) (take j xs)) (drop j xs)) ≡ true
   closing-at j i s [] e h m = absurd (not-suc-le-zero h)
   closing-at zero i s (x ∷ xs) e h m = rw (zero-add i) (opened i s x xs e m)
   closing-at (suc j) i s (x ∷ xs) e h m =
       let z : suc j + i ≡ j + suc i = omega arith in
-      rw z (subst (λ (st : List Open). isFound (closeFrom (j + suc i) (j + suc i) (scanAll (suc i) st (take j xs)) (drop j xs)) ≡ true) (same-open i s x (one i s x xs e .0))
+      rw z (subst (λ (st : List Open). isFound
+      (closeFrom (j + suc i) (j + suc i) (scanAll (suc i) st (take j xs)) (drop j xs)) ≡ true)
+      (same-open i s x (one i s x xs e .0))
       (closing-at j (suc i) (after i s x) xs (one i s x xs e .1) (le-of-suc-le-suc h) m))
 
 abbrev kinds : Script → Kinds

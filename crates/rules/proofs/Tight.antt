@@ -7,7 +7,8 @@ use lib.Dec.{eqb}
 use lib.ListN.{length}
 use Rattle.rules.specs.Words.{Script}
 use Rattle.rules.specs.Check.{verdict}
-use Rattle.rules.specs.Verdict.{Rule, Shape, Kinds, Unwritten, Mark, Ninth, Package, Tag, SameName, Nested, numberOf, meaning}
+use Rattle.rules.specs.Verdict.{Rule, Shape, Kinds, Unwritten, Mark, Ninth, Package, Tag, SameName, Nested}
+use Rattle.rules.specs.Verdict.{numberOf, meaning}
 use Rattle.rules.specs.declared.Verdict.{Verdict as Answer}
 use Rattle.rules.specs.declared.Verdict.the-variants.{Accepted, Refused}
 
@@ -48,7 +49,8 @@ one-meaning (Refused r l) (Refused q k) e =
     let g : l ≡ k = cc in
     cc
 
-pub only-check : (s : List ℕ) (t : Script) (x y : Answer) → meaning x ≡ verdict (length s) t → meaning y ≡ verdict (length s) t → x ≡ y
+pub only-check : (s : List ℕ) (t : Script) (x y : Answer) → meaning x ≡ verdict (length s) t
+    → meaning y ≡ verdict (length s) t → x ≡ y
 only-check s t x y p q = one-meaning x y (p ∙ sym q)
 
 pub only-number : (r : Rule) (x y : ℕ) → x ≡ numberOf r → y ≡ numberOf r → x ≡ y

@@ -1,4 +1,5 @@
--- Pairs of scripts that differ by one item, one pair for each of 19 to 26 (01, The checker): with the one item the script is accepted, with the
+-- Pairs of scripts that differ by one item, one pair for each of 19 to 26 (01, The checker): with the one item the
+-- script is accepted, with the
 -- other it is refused. So no constant verdict fits.
 use Prim.Native.Nat.{ℕ, suc, _+_, _-_}
 use mathlib.Core.Path.{_≡_}
@@ -7,7 +8,8 @@ use mathlib.Core.List.{List, [], _∷_, _++_}
 use lib.IntN.{pos}
 use lib.Ieee.{fin}
 use lib.ListN.{length, replicate}
-use Rattle.rules.specs.Words.{Value, whole, real, name, literal, equal, Item, act, pack, opens, closes, tag, Slot, Script}
+use Rattle.rules.specs.Words.{Value, whole, real, name, literal, equal, Item, act, pack, opens, closes, tag, Slot}
+use Rattle.rules.specs.Words.{Script}
 use Rattle.rules.specs.Words.{store, wait, cellOn, cellOff, pckStart, pckEnd, if', loop, sweep, endif, endloop}
 use Rattle.table.specs.Shape.{noSlot}
 use Rattle.rules.specs.Check.{accepted, refused, verdict}
@@ -56,16 +58,45 @@ abbrev looping : Item
 looping = opens (loop (record { left = literal float; by = equal; right = literal float }))
 
 abbrev sweeping : ℕ → ℕ → Item
-sweeping v w = opens (sweep (record { potential = v; current = w; begin = literal float; end = literal float; step = literal float; rate = literal float }))
+sweeping v w =
+    opens (sweep (record {
+      potential = v;
+      current = w;
+      begin = literal float;
+      end = literal float;
+      step = literal float;
+      rate = literal float;
+    }))
 
 abbrev pub pairs : List Pair
 pairs =
-    record { before = []; good = act (store 0 float 0); bad = act (store 0 (whole (pos 1)) 0); rest = waiting ∷ []; number = 19; line = 2 }
+    record {
+      before = [];
+      good = act (store 0 float 0);
+      bad = act (store 0 (whole (pos 1)) 0);
+      rest = waiting ∷ [];
+      number = 19;
+      line = 2;
+    }
     ∷ record { before = []; good = act (store 0 float 0); bad = act cellOn; rest = waiting ∷ []; number = 20; line = 2 }
     ∷ record { before = always ∷ []; good = closes endif; bad = closes endloop; rest = []; number = 21; line = 2 }
-    ∷ record { before = replicate 8 always; good = act cellOn; bad = always; rest = replicate 8 (closes endif); number = 22; line = 9 }
+    ∷ record {
+      before = replicate 8 always;
+      good = act cellOn;
+      bad = always;
+      rest = replicate 8 (closes endif);
+      number = 22;
+      line = 9;
+    }
     ∷ record { before = pack pckStart ∷ []; good = pack pckEnd; bad = pack pckStart; rest = []; number = 23; line = 2 }
     ∷ record { before = tag ∷ []; good = act cellOff; bad = tag; rest = []; number = 24; line = 2 }
     ∷ record { before = []; good = sweeping 0 1; bad = sweeping 0 0; rest = closes endloop ∷ []; number = 25; line = 1 }
-    ∷ record { before = sweeping 0 1 ∷ []; good = looping; bad = sweeping 2 3; rest = closes endloop ∷ closes endloop ∷ []; number = 26; line = 2 }
+    ∷ record {
+      before = sweeping 0 1 ∷ [];
+      good = looping;
+      bad = sweeping 2 3;
+      rest = closes endloop ∷ closes endloop ∷ [];
+      number = 26;
+      line = 2;
+    }
     ∷ []

@@ -2,7 +2,8 @@
 use Prim.Native.Nat.{ℕ}
 use Rattle.rules.specs.Check.{Verdict, accepted, refused}
 pub use Rattle.rules.specs.declared.Rule.{Rule}
-pub use Rattle.rules.specs.declared.Rule.the-variants.{Shape, Kinds, Unwritten, Mark, Ninth, Package, Tag, SameName, Nested}
+pub use Rattle.rules.specs.declared.Rule.the-variants.{Shape, Kinds, Unwritten, Mark, Ninth, Package, Tag}
+pub use Rattle.rules.specs.declared.Rule.the-variants.{SameName, Nested}
 pub use Rattle.rules.specs.declared.Finding.{Finding}
 pub use Rattle.rules.specs.declared.Finding.the-variants.{Nothing, Broken}
 use Rattle.rules.specs.declared.Verdict.{Verdict as Answer}
