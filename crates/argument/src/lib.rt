@@ -68,6 +68,7 @@ const MOST_NAMES: usize = 32;
 // Above every number of a refusal of form.
 const NO_NUMBER: u8 = 19;
 
+// 01's number of a refusal, 10 to 18.
 pub fn number(refusal: Refusal) -> u8
     ensures { λ r. ⌜ r ≡ numberOf refusal ⌝ }
 {
@@ -86,6 +87,7 @@ pub fn number(refusal: Refusal) -> u8
 
 // ---- what an argument says, where it says something of the sort, and otherwise nothing of meaning
 
+// A name's number; 0 for what is no name.
 pub fn name_of(x: Argument) -> usize
     ensures { λ r. ⌜ r ≡ nameOf x ⌝ }
 {
@@ -95,6 +97,7 @@ pub fn name_of(x: Argument) -> usize
     }
 }
 
+// The operand; the literal 0i for what is none.
 pub fn operand_of(x: Argument) -> Operand
     ensures { λ r. ⌜ r ≡ operandOf x ⌝ }
 {
@@ -104,6 +107,7 @@ pub fn operand_of(x: Argument) -> Operand
     }
 }
 
+// The value of a literal; 0i for what is none.
 pub fn value_of(x: Argument) -> Value
     ensures { λ r. ⌜ r ≡ valueOf x ⌝ }
 {
@@ -113,6 +117,7 @@ pub fn value_of(x: Argument) -> Value
     }
 }
 
+// The letters of a type; 0 for what is none.
 pub fn letters_of(x: Argument) -> u16
     ensures { λ r. ⌜ r ≡ lettersOf x ⌝ }
 {
@@ -122,6 +127,7 @@ pub fn letters_of(x: Argument) -> u16
     }
 }
 
+// A small number; 0 for what is none.
 pub fn small_of(x: Argument) -> u8
     ensures { λ r. ⌜ r ≡ smallOf x ⌝ }
 {
@@ -131,6 +137,7 @@ pub fn small_of(x: Argument) -> u8
     }
 }
 
+// The comparison; equal for what is none.
 pub fn comparison_of(x: Argument) -> Comparison
     ensures { λ r. ⌜ r ≡ comparisonOf x ⌝ }
 {
@@ -140,6 +147,7 @@ pub fn comparison_of(x: Argument) -> Comparison
     }
 }
 
+// The range of a text; the empty one at 0 for what is none.
 pub fn text_of(x: Argument) -> Text
     ensures { λ r. ⌜ r ≡ textOf x ⌝ }
 {

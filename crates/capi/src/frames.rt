@@ -39,6 +39,7 @@ fn refused(why: Refusal, number: u8) -> SatvFrame
     }
 }
 
+// Result 0, the next number and the content's length; or 01's number, the expected number as it was, and length 0.
 #[no_mangle]
 pub extern "C" fn satv_frame_read(line: &[u8], expected: u8) -> SatvFrame
     ensures { λ r. ⌜ r ≡ frameNumbers expected (read (now (line .entry)) expected) ⌝ }
@@ -49,6 +50,8 @@ pub extern "C" fn satv_frame_read(line: &[u8], expected: u8) -> SatvFrame
     }
 }
 
+// Result 0, the next number and how many bytes were written; or 1 or 5, the number as it was, length 0, and the
+// buffer as it was.
 #[no_mangle]
 pub extern "C" fn satv_frame_write(content: &[u8], number: u8, buffer: &mut [u8]) -> SatvFrame
     ensures { λ r. ⌜ wrote r (now (buffer .exit))

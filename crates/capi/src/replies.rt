@@ -58,6 +58,7 @@ fn told(answer: Answer) -> SatvReply
     }
 }
 
+// What a reply comes to with 1,024 rows, none of them kept.
 #[no_mangle]
 pub extern "C" fn satv_reply_read(reply: &[u8]) -> SatvReply
     ensures { λ r. ⌜ r ≡ replyNumbers (outcomeOf 1024 (now (reply .entry))) ⌝ }
@@ -101,6 +102,7 @@ fn row_told(row: Row) -> SatvRow
     }
 }
 
+// One row of a reply by its number, for 1,024 rows: the refusals of the reader first, 56 last at place 0.
 #[no_mangle]
 pub extern "C" fn satv_reply_row(reply: &[u8], row: usize) -> SatvRow
     ensures { λ r. ⌜ r ≡ rowNumbers (now (reply .entry)) row ⌝ }

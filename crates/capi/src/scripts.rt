@@ -9,6 +9,7 @@ pub struct SatvVerdict {
     pub line: usize,
 }
 
+// Number and line of the first refusal of form, else of the rules; both 0 where the script is accepted.
 #[no_mangle]
 pub extern "C" fn satv_script_check(text: &[u8]) -> SatvVerdict
     ensures { λ r. ⌜ r ≡ verdictNumbers (vetted (now (text .entry))) ⌝ }

@@ -273,6 +273,7 @@ fn take_byte(table: &[u16; 256], r: u16, b: u8) -> u16
     (r << 8) ^ table[k as usize]
 }
 
+// The CRC-16 of all the bytes, for a slice of any length.
 pub fn crc16(s: &[u8]) -> u16
     ensures { λ x. ⌜ x ≡ crc (now (s .entry)) ⌝ }
 {

@@ -36,6 +36,7 @@ pub enum Line {
     Refused(Refusal),
 }
 
+// 01's number of a refusal.
 pub fn number(why: Refusal) -> u16
     ensures { λ r. ⌜ r ≡ numberOf why ⌝ }
 {
@@ -51,6 +52,7 @@ pub fn number(why: Refusal) -> u16
     }
 }
 
+// The letter of a row: S for the script, M for a measuring loop, L for a loop.
 pub fn letter(kind: Kind) -> u8
     ensures { λ r. ⌜ r ≡ letterOf kind ⌝ }
 {

@@ -121,6 +121,7 @@ fn name_row(line: &[u8]) -> [u8; 16]
     word::pad(&line[start..end])
 }
 
+// A script in, its table out; or the number and line of the first refusal, within a line the lowest.
 pub fn load(text: &[u8]) -> Loaded
     ensures { λ r. ⌜ meaning r ≡ loaded (now (text .entry)) ⌝ }
 {

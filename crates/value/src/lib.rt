@@ -353,6 +353,7 @@ fn compare_reals(by: Comparison, a: f64, b: f64) -> bool
 
 // ---- values
 
+// A whole number is finite; a float where it is neither infinite nor no number.
 pub fn is_finite(v: Value) -> bool
     ensures { λ r. ⌜ r ≡ finite v ⌝ }
 {
@@ -362,6 +363,8 @@ pub fn is_finite(v: Value) -> bool
     }
 }
 
+// A result, or why there is none: a division by zero, or a result that is not finite. Of two kinds there is none
+// either, and no run gets there: fault 61 is tested before.
 pub fn calculate(by: Operation, a: Value, b: Value) -> Calculated
     ensures { λ r. ⌜ r ≡ calculated by a b ⌝ }
 {
@@ -377,6 +380,7 @@ pub fn calculate(by: Operation, a: Value, b: Value) -> Calculated
     }
 }
 
+// Whether two values compare so; values of two kinds never do.
 pub fn compare(by: Comparison, a: Value, b: Value) -> bool
     ensures { λ r. ⌜ r ≡ compares by a b ⌝ }
 {

@@ -72,6 +72,7 @@ pub fn word_at(s: &[u8], at: usize) -> Span
     Span { start, end }
 }
 
+// A line of blanks, or one whose first other byte is `#`.
 pub fn is_skipped(line: &[u8]) -> bool
     ensures { λ r. ⌜ r ≡ skipped (now (line .entry)) ⌝ }
 {
@@ -83,6 +84,7 @@ pub fn is_skipped(line: &[u8]) -> bool
     }
 }
 
+// A word that has the form of a name, 1 to 16 bytes.
 pub fn is_name(word: &[u8]) -> bool
     ensures { λ r. ⌜ r ≡ nameForm (now (word .entry)) ⌝ }
 {
@@ -99,6 +101,7 @@ pub fn is_name(word: &[u8]) -> bool
     run_from(word, 0, Class::NameByte) == n
 }
 
+// A type's two small letters, the first times 256 and the second.
 pub fn read_type(word: &[u8]) -> TypeName
     ensures { λ r. ⌜ r ≡ readType (now (word .entry)) ⌝ }
 {
@@ -116,6 +119,7 @@ pub fn read_type(word: &[u8]) -> TypeName
     TypeName::Letters(a * 256 + b)
 }
 
+// Digits of a number from 0 to 255.
 pub fn read_small(word: &[u8]) -> Small
     ensures { λ r. ⌜ r ≡ smallOf (now (word .entry)) ⌝ }
 {
