@@ -153,58 +153,6 @@ fn shape_at(k: usize) -> [u8; 6]
     }
 }
 
-// The words by their letter.
-const A: [[u8; 16]; 2] = [*b"add_var         ", *b"abort           "];
-
-const B: [[u8; 16]; 1] = [*b"breakloop       "];
-
-const C: [[u8; 16]; 3] = [
-    *b"copy_var        ",
-    *b"cell_on         ",
-    *b"cell_off        ",
-];
-
-const D: [[u8; 16]; 1] = [*b"div_var         "];
-
-const E: [[u8; 16]; 4] = [
-    *b"elseif          ",
-    *b"else            ",
-    *b"endif           ",
-    *b"endloop         ",
-];
-
-const I: [[u8; 16]; 1] = [*b"if              "];
-
-const L: [[u8; 16]; 1] = [*b"loop            "];
-
-const M: [[u8; 16]; 3] = [
-    *b"mul_var         ",
-    *b"meas_loop_lsv   ",
-    *b"meas            ",
-];
-
-const O: [[u8; 16]; 1] = [*b"on_finished:    "];
-
-const P: [[u8; 16]; 3] = [
-    *b"pck_add         ",
-    *b"pck_start       ",
-    *b"pck_end         ",
-];
-
-const S: [[u8; 16]; 5] = [
-    *b"store_var       ",
-    *b"sub_var         ",
-    *b"send_string     ",
-    *b"set_e           ",
-    *b"set_pgstat_mode ",
-];
-
-const T: [[u8; 16]; 2] = [*b"timer_get       ", *b"timer_start     "];
-
-const V: [[u8; 16]; 1] = [*b"var             "];
-
-const W: [[u8; 16]; 1] = [*b"wait            "];
-
 // The row of a word, found at a place among those of some rows.
 fn row_of(found: Found, rows: [usize; 5]) -> Found
     ensures { λ r. ⌜ r ≡ rowOf rows found ⌝ }
@@ -228,7 +176,8 @@ fn among(word: &[u8], words: &[[u8; 16]], rows: [usize; 5]) -> Found
     row_of(found, rows)
 }
 
-// The row of a command's word, which is looked for among the words that begin with its letter.
+// The row of a command's word, which is looked for among the words that begin with its letter. They stand in the arms:
+// constants would all be laid down, whatever the letter.
 fn find_command(word: &[u8]) -> Found
     ensures { λ r. ⌜ r ≡ seek commandWords (now (word .entry)) ⌝ }
 {
@@ -236,20 +185,71 @@ fn find_command(word: &[u8]) -> Found
         return Found::Nothing;
     }
     match word[0] {
-        b'a' => among(word, &A, [3, 27, 0, 0, 0]),
-        b'b' => among(word, &B, [21, 0, 0, 0, 0]),
-        b'c' => among(word, &C, [2, 25, 26, 0, 0]),
-        b'd' => among(word, &D, [6, 0, 0, 0, 0]),
-        b'e' => among(word, &E, [8, 18, 19, 20, 0]),
-        b'i' => among(word, &I, [7, 0, 0, 0, 0]),
-        b'l' => among(word, &L, [9, 0, 0, 0, 0]),
-        b'm' => among(word, &M, [5, 10, 11, 0, 0]),
-        b'o' => among(word, &O, [28, 0, 0, 0, 0]),
-        b'p' => among(word, &P, [13, 23, 24, 0, 0]),
-        b's' => among(word, &S, [1, 4, 14, 16, 17]),
-        b't' => among(word, &T, [12, 22, 0, 0, 0]),
-        b'v' => among(word, &V, [0, 0, 0, 0, 0]),
-        b'w' => among(word, &W, [15, 0, 0, 0, 0]),
+        b'a' => among(
+            word,
+            &[*b"add_var         ", *b"abort           "],
+            [3, 27, 0, 0, 0],
+        ),
+        b'b' => among(word, &[*b"breakloop       "], [21, 0, 0, 0, 0]),
+        b'c' => among(
+            word,
+            &[
+                *b"copy_var        ",
+                *b"cell_on         ",
+                *b"cell_off        ",
+            ],
+            [2, 25, 26, 0, 0],
+        ),
+        b'd' => among(word, &[*b"div_var         "], [6, 0, 0, 0, 0]),
+        b'e' => among(
+            word,
+            &[
+                *b"elseif          ",
+                *b"else            ",
+                *b"endif           ",
+                *b"endloop         ",
+            ],
+            [8, 18, 19, 20, 0],
+        ),
+        b'i' => among(word, &[*b"if              "], [7, 0, 0, 0, 0]),
+        b'l' => among(word, &[*b"loop            "], [9, 0, 0, 0, 0]),
+        b'm' => among(
+            word,
+            &[
+                *b"mul_var         ",
+                *b"meas_loop_lsv   ",
+                *b"meas            ",
+            ],
+            [5, 10, 11, 0, 0],
+        ),
+        b'o' => among(word, &[*b"on_finished:    "], [28, 0, 0, 0, 0]),
+        b'p' => among(
+            word,
+            &[
+                *b"pck_add         ",
+                *b"pck_start       ",
+                *b"pck_end         ",
+            ],
+            [13, 23, 24, 0, 0],
+        ),
+        b's' => among(
+            word,
+            &[
+                *b"store_var       ",
+                *b"sub_var         ",
+                *b"send_string     ",
+                *b"set_e           ",
+                *b"set_pgstat_mode ",
+            ],
+            [1, 4, 14, 16, 17],
+        ),
+        b't' => among(
+            word,
+            &[*b"timer_get       ", *b"timer_start     "],
+            [12, 22, 0, 0, 0],
+        ),
+        b'v' => among(word, &[*b"var             "], [0, 0, 0, 0, 0]),
+        b'w' => among(word, &[*b"wait            "], [15, 0, 0, 0, 0]),
         _ => Found::Nothing,
     }
 }

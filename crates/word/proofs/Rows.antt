@@ -1,13 +1,15 @@
 -- Laws of words as rows of a table. Assumes nothing.
+use borrow.Author.Tests.{ltb-true, ltb-false}
 use mathlib.Core.Path.{_≡_, refl, sym, _∙_, ap}
 use mathlib.Core.Bool.{Bool, true, false, _&&_, cond}
 use mathlib.Core.List.{List, [], _++_}
 use Prim.Native.Nat.{ℕ, suc, _+_, _-_, _≤_, _<_}
 use native.Mathlib.Numerals.{add-one}
 use native.Mathlib.Omega.{arith}
-use lib.Dec.{eqb}
+use lib.Dec.{ltb, eqb}
 use lib.ListN.{length, take, drop, getD, set, replicate, drop-of-length-le, length-set}
 use lib.Seq.{drop-cons, take-all, take-length, length-take-le, set-at, take-suc, append-snoc}
+use Rattle.word.specs.Code.{Held}
 use Rattle.word.specs.Word.{Found, at, nowhere, padded, sameBytes, place}
 
 -- ---- comparing two rows of 16 bytes
@@ -78,18 +80,27 @@ put {w} {b} {i} p h m =
     }
 
 -- a word that is cut, and one that ends
-pub full : {w b : List ℕ} {i : ℕ} → Padding w b i → 16 ≤ i → b ≡ padded w
+full : {w b : List ℕ} {i : ℕ} → Padding w b i → 16 ≤ i → b ≡ padded w
 unfolding padded
 full {w} {b} {i} p h =
     let e : i ≡ 16 = omega (arith, p) in
     let z : 16 - length w ≡ 0 = omega (arith, p) in
     p .so-far ∙ rw (e, z) refl
 
-pub whole : {w b : List ℕ} {i : ℕ} → Padding w b i → length w ≤ i → b ≡ padded w
+whole : {w b : List ℕ} {i : ℕ} → Padding w b i → length w ≤ i → b ≡ padded w
 unfolding padded
 whole {w} {b} {i} p h =
     let e : i ≡ length w = omega (arith, p) in
     p .so-far ∙ rw (e, take-length w, take-all 16 w (omega (arith, p))) refl
+
+pub filled-up : {w b : List ℕ} {i n : ℕ} → Padding w b i → Held (length w) n → n ≤ i → b ≡ padded w
+filled-up {w} {b} {i} {n} p h l = go (ltb i 16) refl
+  where
+    go : (t : Bool) → ltb i 16 ≡ t → b ≡ padded w
+    go true e =
+        let short : i < 16 = ltb-true _ _ e in
+        whole p (omega (arith, h .all (omega arith)))
+    go false e = full p (ltb-false _ _ e)
 
 -- ---- looking a row up
 

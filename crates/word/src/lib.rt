@@ -2,6 +2,7 @@
 ghost use mathlib.Core.Path.{_≡_};
 ghost use Prim.Native.Nat.{_+_, _<_};
 ghost use lib.ListN.{drop};
+ghost use Rattle.word.specs.Code.{Held};
 ghost use Rattle.word.specs.Word.{inClass, run, wordAt, skipped, nameForm, readType, smallOf};
 ghost use Rattle.word.specs.Word.{padded, sameBytes, place, seek};
 
@@ -142,16 +143,24 @@ pub fn read_small(word: &[u8]) -> Small
     Small::Number(v as u8)
 }
 
+// How many of n bytes a row holds.
+fn held(n: usize) -> usize
+    ensures { λ r. ⌜ Held n r ⌝ }
+{
+    if n < WIDTH {
+        return n;
+    }
+    WIDTH
+}
+
 // A word as a row of a table: filled up with spaces, and cut where it is too long.
 pub fn pad(word: &[u8]) -> [u8; 16]
     ensures { λ r. ⌜ r ≡ padded (now (word .entry)) ⌝ }
 {
     let mut b = [b' '; 16];
+    let n = held(word.len());
     let mut i: usize = 0;
-    while i < word.len() {
-        if WIDTH <= i {
-            return b;
-        }
+    while i < n {
         b[i] = word[i];
         i += 1;
     }

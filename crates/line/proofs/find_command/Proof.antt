@@ -99,98 +99,107 @@ among-requires-14 c κs = search needs
 returns-2 : tie.Need-returns-2
 unfolding padded
 returns-2 c =
-    let seen = c .before .before in
+    let laid = c .before .before .before .before in
+    let seen = laid .before .before in
     c .among .ensures
     ∙ L.by-letter _ 97 L.words-a _ L.letter-a (seen .before .before .if1 .left) (seen .match .keys1)
 
 returns-3 : tie.Need-returns-3
 unfolding padded
 returns-3 c =
-    let seen = c .before .before in
+    let seen = c .before .before .before .before in
     c .among2 .ensures
     ∙ L.by-letter _ 98 L.words-b _ L.letter-b (seen .before .before .if1 .left) (seen .match .keys2)
 
 returns-4 : tie.Need-returns-4
 unfolding padded
 returns-4 c =
-    let seen = c .before .before in
+    let laid = c .before .before .before .before in
+    let seen = laid .before .before .before .before in
     c .among3 .ensures
     ∙ L.by-letter _ 99 L.words-c _ L.letter-c (seen .before .before .if1 .left) (seen .match .keys3)
 
 returns-5 : tie.Need-returns-5
 unfolding padded
 returns-5 c =
-    let seen = c .before .before in
+    let seen = c .before .before .before .before in
     c .among4 .ensures
     ∙ L.by-letter _ 100 L.words-d _ L.letter-d (seen .before .before .if1 .left) (seen .match .keys4)
 
 returns-6 : tie.Need-returns-6
 unfolding padded
 returns-6 c =
-    let seen = c .before .before in
+    let laid = c .before .before .before .before in
+    let more = laid .before .before .before .before in
+    let seen = more .before .before in
     c .among5 .ensures
     ∙ L.by-letter _ 101 L.words-e _ L.letter-e (seen .before .before .if1 .left) (seen .match .keys5)
 
 returns-7 : tie.Need-returns-7
 unfolding padded
 returns-7 c =
-    let seen = c .before .before in
+    let seen = c .before .before .before .before in
     c .among6 .ensures
     ∙ L.by-letter _ 105 L.words-i _ L.letter-i (seen .before .before .if1 .left) (seen .match .keys6)
 
 returns-8 : tie.Need-returns-8
 unfolding padded
 returns-8 c =
-    let seen = c .before .before in
+    let seen = c .before .before .before .before in
     c .among7 .ensures
     ∙ L.by-letter _ 108 L.words-l _ L.letter-l (seen .before .before .if1 .left) (seen .match .keys7)
 
 returns-9 : tie.Need-returns-9
 unfolding padded
 returns-9 c =
-    let seen = c .before .before in
+    let laid = c .before .before .before .before in
+    let seen = laid .before .before .before .before in
     c .among8 .ensures
     ∙ L.by-letter _ 109 L.words-m _ L.letter-m (seen .before .before .if1 .left) (seen .match .keys8)
 
 returns-10 : tie.Need-returns-10
 unfolding padded
 returns-10 c =
-    let seen = c .before .before in
+    let seen = c .before .before .before .before in
     c .among9 .ensures
     ∙ L.by-letter _ 111 L.words-o _ L.letter-o (seen .before .before .if1 .left) (seen .match .keys9)
 
 returns-11 : tie.Need-returns-11
 unfolding padded
 returns-11 c =
-    let seen = c .before .before in
+    let laid = c .before .before .before .before in
+    let seen = laid .before .before .before .before in
     c .among10 .ensures
     ∙ L.by-letter _ 112 L.words-p _ L.letter-p (seen .before .before .if1 .left) (seen .match .keys10)
 
 returns-12 : tie.Need-returns-12
 unfolding padded
 returns-12 c =
-    let seen = c .before .before in
+    let laid = c .before .before .before .before in
+    let more = laid .before .before .before .before in
+    let seen = more .before .before .before .before in
     c .among11 .ensures
     ∙ L.by-letter _ 115 L.words-s _ L.letter-s (seen .before .before .if1 .left) (seen .match .keys11)
 
 returns-13 : tie.Need-returns-13
 unfolding padded
 returns-13 c =
-    let seen = c .before .before in
+    let laid = c .before .before .before .before in
+    let seen = laid .before .before in
     c .among12 .ensures
     ∙ L.by-letter _ 116 L.words-t _ L.letter-t (seen .before .before .if1 .left) (seen .match .keys12)
 
 returns-14 : tie.Need-returns-14
 unfolding padded
 returns-14 c =
-    let seen = c .before .before in
+    let seen = c .before .before .before .before in
     c .among13 .ensures
     ∙ L.by-letter _ 118 L.words-v _ L.letter-v (seen .before .before .if1 .left) (seen .match .keys13)
 
 returns-15 : tie.Need-returns-15
 unfolding padded
 returns-15 c =
-    let seen = c .before .before in
+    let seen = c .before .before .before .before in
     c .among14 .ensures
     ∙ L.by-letter _ 119 L.words-w _ L.letter-w (seen .before .before .if1 .left) (seen .match .keys14)
 
