@@ -1,9 +1,13 @@
 -- What an item writes tells what it wants.
 use mathlib.Core.Path.{_≡_, refl}
-use Rattle.table.specs.declared.Act.the-variants.{Var as var, Store as store, Copy as copy, Calc as calc, Meas as meas, TimerGet as timerGet, SendString as sendString, Wait as wait, SetE as setE, SetMode as setMode, TimerStart as timerStart, CellOn as cellOn, CellOff as cellOff, Abort as abort}
+use Rattle.table.specs.declared.Act.the-variants.{Var as var, Store as store, Copy as copy, Calc as calc, Meas as meas}
+use Rattle.table.specs.declared.Act.the-variants.{TimerGet as timerGet, SendString as sendString, Wait as wait}
+use Rattle.table.specs.declared.Act.the-variants.{SetE as setE, SetMode as setMode, TimerStart as timerStart}
+use Rattle.table.specs.declared.Act.the-variants.{CellOn as cellOn, CellOff as cellOff, Abort as abort}
 use Rattle.table.specs.declared.Head.the-variants.{If as if', Loop as loop, Sweep as sweep}
 use Rattle.table.specs.declared.Item.{Item}
-use Rattle.table.specs.declared.Item.the-variants.{Act as act, Pack as pack, Open as opens, Branch as branch, Close as closes, Break as breakloop, Tag as tag}
+use Rattle.table.specs.declared.Item.the-variants.{Act as act, Pack as pack, Open as opens, Branch as branch}
+use Rattle.table.specs.declared.Item.the-variants.{Close as closes, Break as breakloop, Tag as tag}
 use Rattle.table.specs.Uses.{gives}
 use Rattle.state.specs.State.{wantedBy}
 use Rattle.state.specs.Code.{wantedIn}

@@ -1,0 +1,140 @@
+use Prim.Native.Nat.{_-_, _<_}
+use lib.ListN.{length, length-map}
+use Rattle.mates.proofs.OpenBoxes.{Passed, pass-starts, pass-below, pass-room, pass-top, pass-more, pass-ends}
+use Rattle.mates.specs.Code.{topPlace}
+use Rattle.table.specs.declared.Slot.{Slot}
+use mathlib.Core.List.{List}
+use mathlib.Core.Path.{_≡_}
+use native.Mathlib.Omega.{arith}
+use borrow.Author.Needs.{needs}
+use Rattle.mates.proofs.survey_of.Statement.{statement}
+use Rattle.mates.proofs.survey_of.Tie as tie
+
+abbrev Inv-loop : tie.InvT-loop
+Inv-loop size script names count boxes₀ depth₀ at₀ shaped₀ n j₀ boxes depth at shaped j =
+    Passed size script n boxes depth at shaped j
+
+abbrev μ-loop : tie.MeasureT-loop
+μ-loop size script names count boxes₀ depth₀ at₀ shaped₀ n j₀ boxes depth at shaped j = n - j
+
+at-most-requires : tie.Need-at-most-requires Inv-loop μ-loop
+at-most-requires c κs = search needs
+
+loop-holds : tie.Need-loop-holds Inv-loop μ-loop
+loop-holds c = pass-starts (c .before .args .size) (c .before .args .t2) (c .at-most .result)
+
+-- one item is passed
+module _ (c : tie.In-loop Inv-loop μ-loop) where
+  abbrev items : List Slot
+  items = c .before .before .before .args .t2 .items
+
+  full : length items ≡ 128
+  full = simp length-map at (c .before .before .before .good .1 .0 .1 .1 .0 .1 .0 .1)
+
+  below : c .before .loop .j < 128
+  below = pass-below (c .before .loop .inv) full (c .before .before .at-most .ensures) (c .loop-test .taken)
+
+  room : c .before .loop .depth < 128
+  room = pass-room (c .before .loop .inv) full (c .before .before .at-most .ensures) (c .loop-test .taken)
+
+  over : topPlace (c .before .loop .depth) < 128
+  over = pass-top (c .before .loop .inv) full (c .before .before .at-most .ensures) (c .loop-test .taken)
+
+mul-slot : tie.Need-mul-slot Inv-loop μ-loop
+mul-slot c = search (needs, below c)
+
+element-copy-out-slot : tie.Need-element-copy-out-slot Inv-loop μ-loop
+element-copy-out-slot c = search (needs, below c)
+
+top-place-requires : tie.Need-top-place-requires Inv-loop μ-loop
+top-place-requires c κs = search needs
+
+mul-top : tie.Need-mul-top Inv-loop μ-loop
+mul-top c = let d = c .before .before in
+    search (needs, over d, c .top-place .ensures)
+
+array-copy-out-top : tie.Need-array-copy-out-top Inv-loop μ-loop
+array-copy-out-top c = let d = c .before .before in
+    omega (arith, over d, c .top-place .ensures, d .before .loop .inv .wide)
+
+fits-top-requires : tie.Need-fits-top-requires Inv-loop μ-loop
+fits-top-requires c κs = search needs
+
+mark-in-requires : tie.Need-mark-in-requires Inv-loop μ-loop
+mark-in-requires c κs = search needs
+
+mul-at : tie.Need-mul-at Inv-loop μ-loop
+mul-at c = let d = c .before .before .before .before .before in
+    search (needs, below d)
+
+array-set-from-at : tie.Need-array-set-from-at Inv-loop μ-loop
+array-set-from-at c = let d = c .before .before .before .before .before in
+    omega (arith, below d, d .before .loop .inv .long)
+
+opened-requires : tie.Need-opened-requires Inv-loop μ-loop
+opened-requires c κs = search needs
+
+mul-boxes : tie.Need-mul-boxes Inv-loop μ-loop
+mul-boxes c = let d = c .before .before .before .before .before .before in
+    search (needs, room d)
+
+array-set-from-boxes : tie.Need-array-set-from-boxes Inv-loop μ-loop
+array-set-from-boxes c = let d = c .before .before .before .before .before .before in
+    omega (arith, room d, d .before .loop .inv .wide)
+
+depth-past-requires : tie.Need-depth-past-requires Inv-loop μ-loop
+depth-past-requires c κs = room (c .before .before .before .before .before .before)
+
+item-ok-requires : tie.Need-item-ok-requires Inv-loop μ-loop
+item-ok-requires c κs = search needs
+
+add-j : tie.Need-add-j Inv-loop μ-loop
+add-j c = search needs
+
+loop-less : tie.Need-loop-less Inv-loop μ-loop
+loop-less c = search needs
+
+loop-again : tie.Need-loop-again Inv-loop μ-loop
+loop-again c = let k = c .before .before .before .before in
+    let d = k .before .before .before .before in
+    rw (
+      c .item-ok .ensures,
+      c .before .depth-past .ensures,
+      c .before .before .opened .ensures,
+      c .before .before .before .mark-in .ensures,
+      k .fits-top .ensures,
+      k .before .before .top-place .ensures,
+    )
+    (pass-more (d .before .loop .inv) (full d) (d .before .before .at-most .ensures) (d .loop-test .taken))
+
+returns : tie.Need-returns Inv-loop μ-loop
+returns c =
+    pass-ends (c .before .loop .inv) (simp length-map at (c .before .before .before .good .1 .0 .1 .1 .0 .1 .0 .1))
+    (c .before .before .at-most .ensures) (c .loop-test .left)
+
+pub survey-of-spec : {M : Type 1} → statement M
+survey-of-spec =
+    tie.close
+    (tie.spec
+    Inv-loop
+    μ-loop
+    at-most-requires
+    loop-holds
+    mul-slot
+    element-copy-out-slot
+    top-place-requires
+    mul-top
+    array-copy-out-top
+    fits-top-requires
+    mark-in-requires
+    mul-at
+    array-set-from-at
+    opened-requires
+    mul-boxes
+    array-set-from-boxes
+    depth-past-requires
+    item-ok-requires
+    add-j
+    loop-less
+    loop-again
+    returns)
