@@ -1,4 +1,5 @@
 pub mod Apart
+pub mod Bools
 pub mod Stack
 pub mod Lists
 pub mod Walk
