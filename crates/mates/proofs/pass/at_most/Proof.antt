@@ -1,6 +1,6 @@
 use borrow.Author.Tests.{le-leb, lt-leb}
-use Rattle.mates.proofs.at_most.Statement.{statement}
-use Rattle.mates.proofs.at_most.Tie as tie
+use Rattle.mates.proofs.pass.at_most.Statement.{statement}
+use Rattle.mates.proofs.pass.at_most.Tie as tie
 
 returns : tie.Need-returns
 returns c = simp (le-leb _ _ (c .if1 .taken))

@@ -1,6 +1,6 @@
 use borrow.Author.Needs.{needs}
-use Rattle.mates.proofs.depth_past.Statement.{statement}
-use Rattle.mates.proofs.depth_past.Tie as tie
+use Rattle.mates.proofs.pass.depth_past.Statement.{statement}
+use Rattle.mates.proofs.pass.depth_past.Tie as tie
 
 enum-told : tie.Need-enum-told
 enum-told c = search needs

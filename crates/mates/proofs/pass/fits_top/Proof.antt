@@ -1,7 +1,7 @@
 use borrow.Author.Tests.{eq-eqb, ne-eqb}
 use borrow.Author.Needs.{needs}
-use Rattle.mates.proofs.fits_top.Statement.{statement}
-use Rattle.mates.proofs.fits_top.Tie as tie
+use Rattle.mates.proofs.pass.fits_top.Statement.{statement}
+use Rattle.mates.proofs.pass.fits_top.Tie as tie
 
 returns : tie.Need-returns
 returns c = simp (eq-eqb _ _ (c .if1 .taken))

@@ -1,6 +1,6 @@
 use borrow.Author.Needs.{needs}
-use Rattle.mates.proofs.opened.Statement.{statement}
-use Rattle.mates.proofs.opened.Tie as tie
+use Rattle.mates.proofs.pass.opened.Statement.{statement}
+use Rattle.mates.proofs.pass.opened.Tie as tie
 
 sort-in-requires : tie.Need-sort-in-requires
 sort-in-requires c κs = search needs

@@ -1,6 +1,6 @@
 use borrow.Author.Needs.{needs}
-use Rattle.mates.proofs.owner_of.Statement.{statement}
-use Rattle.mates.proofs.owner_of.Tie as tie
+use Rattle.mates.proofs.pass.owner_of.Statement.{statement}
+use Rattle.mates.proofs.pass.owner_of.Tie as tie
 
 narrow-requires : tie.Need-narrow-requires
 narrow-requires c κs = search needs

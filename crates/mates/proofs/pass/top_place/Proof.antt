@@ -1,7 +1,7 @@
 use borrow.Author.Tests.{eq-eqb, ne-eqb}
 use borrow.Author.Needs.{needs}
-use Rattle.mates.proofs.top_place.Statement.{statement}
-use Rattle.mates.proofs.top_place.Tie as tie
+use Rattle.mates.proofs.pass.top_place.Statement.{statement}
+use Rattle.mates.proofs.pass.top_place.Tie as tie
 
 sub-result : tie.Need-sub-result
 sub-result c = search needs

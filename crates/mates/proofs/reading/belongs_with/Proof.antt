@@ -1,8 +1,8 @@
 use Rattle.mates.proofs.Placed.{owner-zero, owner-suc}
 use mathlib.Core.Path.{sym, _∙_}
 use borrow.Author.Needs.{needs}
-use Rattle.mates.proofs.belongs_with.Statement.{statement}
-use Rattle.mates.proofs.belongs_with.Tie as tie
+use Rattle.mates.proofs.reading.belongs_with.Statement.{statement}
+use Rattle.mates.proofs.reading.belongs_with.Tie as tie
 
 wide-requires : tie.Need-wide-requires
 wide-requires c κs = search needs

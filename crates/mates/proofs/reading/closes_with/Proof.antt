@@ -1,7 +1,7 @@
 use mathlib.Core.Path.{sym, _∙_}
 use borrow.Author.Needs.{needs}
-use Rattle.mates.proofs.closes_with.Statement.{statement}
-use Rattle.mates.proofs.closes_with.Tie as tie
+use Rattle.mates.proofs.reading.closes_with.Statement.{statement}
+use Rattle.mates.proofs.reading.closes_with.Tie as tie
 
 role-closes-requires : tie.Need-role-closes-requires
 role-closes-requires c κs = search needs
