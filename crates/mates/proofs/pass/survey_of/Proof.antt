@@ -1,8 +1,7 @@
 -- `mates::survey_of` passes the items in order. Assumes nothing.
 use Prim.Native.Nat.{_-_, _<_}
-use lib.ListN.{length-map}
-use mathlib.Core.Path.{_≡_}
 use native.Mathlib.Omega.{arith}
+use lib.ListN.{length-map}
 use borrow.Author.Needs.{needs}
 use Rattle.mates.specs.Code.{topPlace}
 use Rattle.mates.proofs.OpenBoxes.{Passed, Bounded, pass-starts, pass-below, pass-room, pass-top, pass-more}

@@ -1,6 +1,6 @@
-use Rattle.mates.proofs.Placed.{owner-zero, owner-suc}
 use mathlib.Core.Path.{sym, _∙_}
 use borrow.Author.Needs.{needs}
+use Rattle.mates.proofs.Placed.{owner-zero, owner-suc}
 use Rattle.mates.proofs.reading.belongs_with.Statement.{statement}
 use Rattle.mates.proofs.reading.belongs_with.Tie as tie
 

@@ -34,12 +34,13 @@ returns-2 c = simp (c .one-wrong .ensures, c .before .before .wants .given .1)
 
 returns-3 : tie.Need-returns-3
 returns-3 c =
+    let d = c .before .before .before in
     simp (
       c .no-float4 .ensures,
       c .before .no-float3 .ensures,
       c .before .before .no-float2 .ensures,
-      c .before .before .before .no-float .ensures,
-      c .before .before .before .before .before .wants2 .given .1,
+      d .no-float .ensures,
+      d .before .before .wants2 .given .1,
     )
 
 pub any-wrong-spec : {M : Type 1} → statement M

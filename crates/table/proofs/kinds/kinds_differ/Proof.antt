@@ -25,7 +25,8 @@ returns-2 c = search needs
 
 returns-3 : tie.Need-returns-3
 returns-3 c =
-    simp (c .same-kind .ensures, c .before .before .b .given .1, c .before .before .before .before .before .a .given .1)
+    let d = c .before .before in
+    simp (c .same-kind .ensures, d .b .given .1, d .before .before .before .a .given .1)
 
 pub kinds-differ-spec : {M : Type 1} → statement M
 kinds-differ-spec =

@@ -34,12 +34,13 @@ returns-2 c = simp (c .one-want-ok .ensures, c .before .before .wants .given .1)
 
 returns-3 : tie.Need-returns-3
 returns-3 c =
+    let d = c .before .before .before in
     simp (
       c .operand-ok4 .ensures,
       c .before .operand-ok3 .ensures,
       c .before .before .operand-ok2 .ensures,
-      c .before .before .before .operand-ok .ensures,
-      c .before .before .before .before .before .wants2 .given .1,
+      d .operand-ok .ensures,
+      d .before .before .wants2 .given .1,
     )
 
 pub wants-ok-spec : {M : Type 1} → statement M

@@ -64,11 +64,8 @@ returns-5 c = search needs
 
 returns-6 : tie.Need-returns-6
 returns-6 c =
-    simp (
-      c .condition-reads .ensures,
-      c .before .before .b .given .1,
-      c .before .before .before .before .before .item4 .given .1,
-    )
+    let d = c .before .before in
+    simp (c .condition-reads .ensures, d .b .given .1, d .before .before .before .item4 .given .1)
 
 returns-7 : tie.Need-returns-7
 returns-7 c = search needs

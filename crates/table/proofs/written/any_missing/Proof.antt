@@ -34,12 +34,13 @@ returns-2 c = simp (c .one-missing .ensures, c .before .before .wants .given .1)
 
 returns-3 : tie.Need-returns-3
 returns-3 c =
+    let d = c .before .before .before in
     simp (
       c .is-gone4 .ensures,
       c .before .is-gone3 .ensures,
       c .before .before .is-gone2 .ensures,
-      c .before .before .before .is-gone .ensures,
-      c .before .before .before .before .before .wants2 .given .1,
+      d .is-gone .ensures,
+      d .before .before .wants2 .given .1,
     )
 
 pub any-missing-spec : {M : Type 1} → statement M
