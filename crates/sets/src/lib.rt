@@ -19,18 +19,21 @@ const NONE: u32 = 0;
 
 const ALL: u32 = 4294967295;
 
+// The set of no name.
 pub fn none() -> u32
     ensures { λ r. ⌜ namesOf r ≡ nothing ⌝ }
 {
     NONE
 }
 
+// The set of all 32 names.
 pub fn all() -> u32
     ensures { λ r. ⌜ namesOf r ≡ everything ⌝ }
 {
     ALL
 }
 
+// Whether a name is in a set; past the last name none is.
 pub fn has_name(names: u32, n: usize) -> bool
     ensures { λ r. ⌜ r ≡ has (namesOf names) n ⌝ }
 {
@@ -40,6 +43,7 @@ pub fn has_name(names: u32, n: usize) -> bool
     false
 }
 
+// The set with a name in it; past the last name the set as it was.
 pub fn with_name(names: u32, n: usize) -> u32
     ensures { λ r. ⌜ namesOf r ≡ set (namesOf names) n true ⌝ }
 {
@@ -49,12 +53,14 @@ pub fn with_name(names: u32, n: usize) -> u32
     names
 }
 
+// The names that are in both sets.
 pub fn in_both(a: u32, b: u32) -> u32
     ensures { λ r. ⌜ namesOf r ≡ both (namesOf a) (namesOf b) ⌝ }
 {
     a & b
 }
 
+// The names that are in one of the sets or both.
 pub fn in_either(a: u32, b: u32) -> u32
     ensures { λ r. ⌜ namesOf r ≡ either (namesOf a) (namesOf b) ⌝ }
 {

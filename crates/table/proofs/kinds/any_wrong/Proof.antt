@@ -1,0 +1,51 @@
+use borrow.Author.Needs.{needs}
+use Rattle.table.proofs.kinds.any_wrong.Statement.{statement}
+use Rattle.table.proofs.kinds.any_wrong.Tie as tie
+
+enum-told : tie.Need-enum-told
+enum-told c = search needs
+
+enum-known-wants : tie.Need-enum-known-wants
+enum-known-wants c = search needs
+
+one-wrong-requires : tie.Need-one-wrong-requires
+one-wrong-requires c κs = search needs
+
+enum-known-wants-2 : tie.Need-enum-known-wants-2
+enum-known-wants-2 c = search needs
+
+no-float-requires : tie.Need-no-float-requires
+no-float-requires c κs = search needs
+
+no-float-requires-2 : tie.Need-no-float-requires-2
+no-float-requires-2 c κs = search needs
+
+no-float-requires-3 : tie.Need-no-float-requires-3
+no-float-requires-3 c κs = search needs
+
+no-float-requires-4 : tie.Need-no-float-requires-4
+no-float-requires-4 c κs = search needs
+
+returns : tie.Need-returns
+returns c = search needs
+
+returns-2 : tie.Need-returns-2
+returns-2 c = simp (c .one-wrong .ensures, c .before .before .wants .given .1)
+
+returns-3 : tie.Need-returns-3
+returns-3 c =
+    let d = c .before .before .before in
+    simp (
+      c .no-float4 .ensures,
+      c .before .no-float3 .ensures,
+      c .before .before .no-float2 .ensures,
+      d .no-float .ensures,
+      d .before .before .wants2 .given .1,
+    )
+
+pub any-wrong-spec : {M : Type 1} → statement M
+any-wrong-spec =
+    tie.close
+    (tie.spec
+    enum-told enum-known-wants one-wrong-requires enum-known-wants-2 no-float-requires
+    no-float-requires-2 no-float-requires-3 no-float-requires-4 returns returns-2 returns-3)
