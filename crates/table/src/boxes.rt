@@ -1,6 +1,6 @@
 // The marks: which open, part and close a box, and of what sort; the package order.
 ghost use mathlib.Core.Path.{_≡_};
-ghost use Rattle.table.specs.Item.{sortOf, isOpen, isBranch, isLoop, isSweep, fits};
+ghost use Rattle.table.specs.Item.{sortOf, isLoop, isSweep, fits};
 ghost use Rattle.table.specs.Uses.{breaksOrder};
 use super::Close;
 use super::Head;
@@ -38,36 +38,6 @@ pub fn is_sweep(sort: Sort) -> bool
         Sort::If => false,
         Sort::Loop => false,
         Sort::Sweep => true,
-    }
-}
-
-// An item that opens a box.
-pub fn is_open(item: Item) -> bool
-    ensures { λ r. ⌜ r ≡ isOpen item ⌝ }
-{
-    match item {
-        Item::Act(_) => false,
-        Item::Pack(_) => false,
-        Item::Open(_) => true,
-        Item::Branch(_) => false,
-        Item::Close(_) => false,
-        Item::Break => false,
-        Item::Tag => false,
-    }
-}
-
-// An `elseif` or `else`.
-pub fn is_branch(item: Item) -> bool
-    ensures { λ r. ⌜ r ≡ isBranch item ⌝ }
-{
-    match item {
-        Item::Act(_) => false,
-        Item::Pack(_) => false,
-        Item::Open(_) => false,
-        Item::Branch(_) => true,
-        Item::Close(_) => false,
-        Item::Break => false,
-        Item::Tag => false,
     }
 }
 
