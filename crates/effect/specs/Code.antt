@@ -371,6 +371,9 @@ depthFault′ s x = cond (ltb (s .depth) 8) false (deepItem s x)
 abbrev pub readFault : Bool → Bool → Trouble
 readFault b c = cond b (Trouble.Fault Fault.Unwritten) (cond c (Trouble.Fault Fault.Kind) Trouble.None)
 
+abbrev pub needFault : Need → Cells → Trouble
+needFault n k = readFault (cellsMissing n k) (cellsWrong n k)
+
 abbrev pub markFault : Bool → Bool → Bool → Trouble
 markFault b c d =
     cond b (Trouble.Fault Fault.Box)
@@ -382,7 +385,7 @@ orElse (Trouble.Fault f) t = Trouble.Fault f
 
 abbrev pub faultOf : Spot → Item → Cells → Bool → Trouble
 faultOf s x k b =
-    orElse (readFault (cellsMissing (needOf x) k) (cellsWrong (needOf x) k))
+    orElse (needFault (needOf x) k)
     (markFault b (depthFault′ s x) (breaksOrder x (s .packed)))
 
 -- ---- src/tries.rt: the mates that a false condition tries
@@ -399,7 +402,7 @@ tryUnless Trouble.None b i = tryHolding b i
 tryUnless (Trouble.Fault f) b i = Tried.Go (Chosen.Bad f)
 
 abbrev pub tryCondition : Condition → Cells → ℕ → Tried
-tryCondition c k i = tryUnless (readFault (cellsMissing Need.Alike k) (cellsWrong Need.Alike k)) (holds c k) i
+tryCondition c k i = tryUnless (needFault Need.Alike k) (holds c k) i
 
 abbrev pub tryBranch : Branch → Cells → ℕ → Tried
 tryBranch (Branch.ElseIf c) k i = tryCondition c k i
@@ -507,6 +510,9 @@ runHead s (Head.If q) k c i o = runChosen s c
 runHead s (Head.Loop q) k c i o = runLoop s (holds q k) i
 runHead s (Head.Sweep w) k c i o = runSweep s w i o
 
+abbrev pub leaveIf : Spot → ℕ → Effect
+leaveIf s i = runs (leaveTo s (below (s .depth)) i false)
+
 abbrev pub runEndloop : Spot → Bool → Effect
 runEndloop s b =
     cond (b && (s .pending || s .skip))
@@ -514,21 +520,24 @@ runEndloop s b =
     (runs (goTo s (topOf s)))
 
 abbrev pub runClose : Spot → Close → Bool → Effect
-runClose s Close.EndIf b = runs (leaveTo s (below (s .depth)) (after (s .at)) false)
+runClose s Close.EndIf b = leaveIf s (after (s .at))
 runClose s Close.EndLoop b = runEndloop s b
-
--- ---- src/step.rt: one step
 
 abbrev pub loopSort : Bool → LoopSort
 loopSort b = cond b LoopSort.Sweep LoopSort.Loop
+
+abbrev pub runBreak : Spot → Around → Effect
+runBreak s w = saying (leaveTo s (w .outside) (w .close) (w .sweep)) (What.Leave (loopSort (w .sweep)))
+
+-- ---- src/step.rt: one step
 
 abbrev pub runItem : Spot → Item → Cells → Chosen → Around → Offer → Effect
 runItem s (Item.Act a) k c w o = runAct s a (k .a) (k .b) o
 runItem s (Item.Pack p) k c w o = runPack s p (k .a)
 runItem s (Item.Open h) k c w o = runHead s h k c (w .close) o
-runItem s (Item.Branch b) k c w o = runs (leaveTo s (below (s .depth)) (w .close) false)
+runItem s (Item.Branch b) k c w o = leaveIf s (w .close)
 runItem s (Item.Close e) k c w o = runClose s e (w .sweep)
-runItem s Item.Break k c w o = saying (leaveTo s (w .outside) (w .close) (w .sweep)) (What.Leave (loopSort (w .sweep)))
+runItem s Item.Break k c w o = runBreak s w
 runItem s Item.Tag k c w o = runs (goOn s)
 
 -- the spot before the step is kept by a refusal; what the control made of it by a wait
@@ -541,11 +550,16 @@ abbrev pub unless : Trouble → Spot → Effect → Effect
 unless Trouble.None s e = e
 unless (Trouble.Fault f) s e = faultBy s f
 
+abbrev pub troubleOf : Spot → Looked → Trouble
+troubleOf s k = orElse (faultOf s (k .item) (k .cells) (k .around .stray)) (chosenFault (k .chosen))
+
+abbrev pub soundItem : Spot → Spot → Looked → Offer → Effect
+soundItem before s k o =
+    served before s (rules.meets (rules.wantedBy (k .item)) o)
+    (runItem s (k .item) (k .cells) (k .chosen) (k .around) o)
+
 abbrev pub atItem : Spot → Spot → Looked → Offer → Effect
-atItem before s k o =
-    unless (orElse (faultOf s (k .item) (k .cells) (k .around .stray)) (chosenFault (k .chosen))) s
-    (served before s (rules.meets (rules.wantedBy (k .item)) o)
-    (runItem s (k .item) (k .cells) (k .chosen) (k .around) o))
+atItem before s k o = unless (troubleOf s k) s (soundItem before s k o)
 
 abbrev pub leaveAll : Spot → Spot → Status → Answer → Offer → Effect
 leaveAll before s t a o = served before s (rules.meets rules.wantsNothing o) (leaving s t a)
@@ -573,11 +587,20 @@ moved before s k o =
 abbrev pub live′ : Spot → Looked → Control → Offer → Effect
 live′ before k c o = moved before (takeControl before c (k .around .sweeping)) k o
 
+abbrev pub isLive : Status → Bool
+isLive Status.Live = true
+isLive Status.Finished = false
+isLive (Status.Stopped q) = false
+isLive (Status.Fault f) = false
+
+abbrev pub answerOf : Status → Answer
+answerOf Status.Live = Answer.Running
+answerOf Status.Finished = Answer.Finished
+answerOf (Status.Stopped q) = Answer.Stopped q
+answerOf (Status.Fault f) = Answer.Fault f
+
 abbrev pub again : Spot → Status → Looked → Control → Offer → Effect
-again s Status.Live k c o = live′ s k c o
-again s Status.Finished k c o = still s Status.Finished Answer.Finished
-again s (Status.Stopped q) k c o = still s (Status.Stopped q) (Answer.Stopped q)
-again s (Status.Fault f) k c o = still s (Status.Fault f) (Answer.Fault f)
+again s t k c o = cond (isLive t) (live′ s k c o) (still s t (answerOf t))
 
 abbrev pub effectOf : Bool → Spot → Status → Looked → Control → Offer → Effect
 effectOf b s t k c o = cond b (again s t k c o) (still s t (Answer.Refused Refusal.Shape))

@@ -35,13 +35,11 @@ fn keep_result(s: Spot, n: usize, kind: u16, c: Calculated) -> Effect
 pub(crate) fn run_act(s: Spot, a: Act, x: Cell, y: Cell, o: Offer) -> Effect
     ensures { λ r. ⌜ r ≡ code.runAct s a x y o ⌝ }
 {
+    let on = spots::go_on(s);
     match a {
-        Act::Var(_) => effects::running(spots::go_on(s)),
-        Act::Store(n, v, kind) => effects::writing(
-            spots::go_on(s),
-            Write::Put(n, Cell::Holds(v, kind)),
-        ),
-        Act::Copy(_, to) => effects::writing(spots::go_on(s), Write::Put(to, x)),
+        Act::Var(_) => effects::running(on),
+        Act::Store(n, v, kind) => effects::writing(on, Write::Put(n, Cell::Holds(v, kind))),
+        Act::Copy(_, to) => effects::writing(on, Write::Put(to, x)),
         Act::Calc(by, n, _) => keep_result(
             s,
             n,
@@ -50,20 +48,14 @@ pub(crate) fn run_act(s: Spot, a: Act, x: Cell, y: Cell, o: Offer) -> Effect
         ),
         Act::Meas(_, n, kind) => keep_result(s, n, kind, state::reading_of(o)),
         Act::TimerGet(n) => keep_result(s, n, TYPE_EB, state::reading_of(o)),
-        Act::SendString(t) => effects::saying(spots::go_on(s), What::Text(t)),
-        Act::Wait(_) => effects::saying(
-            spots::go_on(s),
-            What::Order(Order::Wait(state::cell_value(x))),
-        ),
-        Act::SetE(_) => effects::saying(
-            spots::go_on(s),
-            What::Order(Order::SetE(state::cell_value(x))),
-        ),
-        Act::SetMode(n) => effects::saying(spots::go_on(s), What::Order(Order::SetMode(n))),
-        Act::TimerStart => effects::running(spots::go_on(s)),
-        Act::CellOn => effects::saying(spots::go_on(s), What::Order(Order::CellOn)),
-        Act::CellOff => effects::saying(spots::go_on(s), What::Order(Order::CellOff)),
-        Act::Abort => effects::running(spots::go_on(spots::with_pending(s))),
+        Act::SendString(t) => effects::saying(on, What::Text(t)),
+        Act::Wait(_) => effects::saying(on, What::Order(Order::Wait(state::cell_value(x)))),
+        Act::SetE(_) => effects::saying(on, What::Order(Order::SetE(state::cell_value(x)))),
+        Act::SetMode(n) => effects::saying(on, What::Order(Order::SetMode(n))),
+        Act::TimerStart => effects::running(on),
+        Act::CellOn => effects::saying(on, What::Order(Order::CellOn)),
+        Act::CellOff => effects::saying(on, What::Order(Order::CellOff)),
+        Act::Abort => effects::running(spots::with_pending(on)),
     }
 }
 

@@ -105,7 +105,7 @@ fn is_real(c: Cell) -> bool
 }
 
 // 60
-pub(crate) fn cells_missing(need: Need, k: Cells) -> bool
+fn cells_missing(need: Need, k: Cells) -> bool
     ensures { λ r. ⌜ r ≡ code.cellsMissing need k ⌝ }
 {
     let a = k.a;
@@ -128,7 +128,7 @@ fn kinds_differ(a: Cell, b: Cell) -> bool
 }
 
 // 61
-pub(crate) fn cells_wrong(need: Need, k: Cells) -> bool
+fn cells_wrong(need: Need, k: Cells) -> bool
     ensures { λ r. ⌜ r ≡ code.cellsWrong need k ⌝ }
 {
     let a = k.a;
@@ -172,7 +172,7 @@ fn depth_fault(s: Spot, x: Item) -> bool
     }
 }
 
-pub(crate) fn read_fault(missing: bool, wrong: bool) -> Trouble
+fn read_fault(missing: bool, wrong: bool) -> Trouble
     ensures { λ r. ⌜ r ≡ code.readFault missing wrong ⌝ }
 {
     if missing {
@@ -182,6 +182,13 @@ pub(crate) fn read_fault(missing: bool, wrong: bool) -> Trouble
         return Trouble::Fault(Fault::Kind);
     }
     Trouble::None
+}
+
+// The fault of what a step reads.
+pub(crate) fn need_fault(need: Need, k: Cells) -> Trouble
+    ensures { λ r. ⌜ r ≡ code.needFault need k ⌝ }
+{
+    read_fault(cells_missing(need, k), cells_wrong(need, k))
 }
 
 fn mark_fault(stray: bool, ninth: bool, order: bool) -> Trouble
@@ -211,9 +218,8 @@ pub(crate) fn or_else(first: Trouble, second: Trouble) -> Trouble
 pub(crate) fn fault_of(s: Spot, x: Item, k: Cells, stray: bool) -> Trouble
     ensures { λ r. ⌜ r ≡ code.faultOf s x k stray ⌝ }
 {
-    let need = need_of(x);
     or_else(
-        read_fault(cells_missing(need, k), cells_wrong(need, k)),
+        need_fault(need_of(x), k),
         mark_fault(stray, depth_fault(s, x), table::breaks_order(x, s.packed)),
     )
 }

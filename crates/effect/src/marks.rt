@@ -1,6 +1,7 @@
 // What opening and closing marks do.
 ghost use mathlib.Core.Path.{_≡_};
 ghost use Rattle.effect.specs.Code as code;
+use super::Around;
 use super::Cells;
 use super::Chosen;
 use super::Effect;
@@ -74,20 +75,17 @@ fn run_loop(s: Spot, holding: bool, close: usize) -> Effect
 fn run_point(s: Spot, w: Sweep, p: Point) -> Effect
     ensures { λ r. ⌜ r ≡ code.runPoint s w p ⌝ }
 {
-    if !value::is_finite(Value::Real(p.potential)) {
-        return effects::stop_by(s, Stop::NotFinite);
+    let potential = Value::Real(p.potential);
+    let current = Value::Real(p.current);
+    if value::is_finite(potential) & value::is_finite(current) {
+        return enter_loop(
+            s,
+            LoopSort::Sweep,
+            Write::Put(w.potential, Cell::Holds(potential, TYPE_DA)),
+            Write::Put(w.current, Cell::Holds(current, TYPE_BA)),
+        );
     }
-    if !value::is_finite(Value::Real(p.current)) {
-        return effects::stop_by(s, Stop::NotFinite);
-    }
-    let first = w.potential;
-    let second = w.current;
-    enter_loop(
-        s,
-        LoopSort::Sweep,
-        Write::Put(first, Cell::Holds(Value::Real(p.potential), TYPE_DA)),
-        Write::Put(second, Cell::Holds(Value::Real(p.current), TYPE_BA)),
-    )
+    effects::stop_by(s, Stop::NotFinite)
 }
 
 fn run_sweep(s: Spot, w: Sweep, close: usize, o: Offer) -> Effect
@@ -121,6 +119,13 @@ pub(crate) fn run_head(s: Spot, h: Head, k: Cells, c: Chosen, close: usize, o: O
     }
 }
 
+// Out of an if.
+pub(crate) fn leave_if(s: Spot, to: usize) -> Effect
+    ensures { λ r. ⌜ r ≡ code.leaveIf s to ⌝ }
+{
+    effects::running(spots::leave_to(s, spots::below(s.depth), to, false))
+}
+
 // An endloop leaves its measuring loop where an abort is pending or a skip is set.
 fn run_endloop(s: Spot, sweep: bool) -> Effect
     ensures { λ r. ⌜ r ≡ code.runEndloop s sweep ⌝ }
@@ -138,12 +143,28 @@ pub(crate) fn run_close(s: Spot, e: Close, sweep: bool) -> Effect
     ensures { λ r. ⌜ r ≡ code.runClose s e sweep ⌝ }
 {
     match e {
-        Close::EndIf => effects::running(spots::leave_to(
-            s,
-            spots::below(s.depth),
-            spots::after(s.at),
-            false,
-        )),
+        Close::EndIf => leave_if(s, spots::after(s.at)),
         Close::EndLoop => run_endloop(s, sweep),
     }
+}
+
+fn loop_sort(sweep: bool) -> LoopSort
+    ensures { λ r. ⌜ r ≡ code.loopSort sweep ⌝ }
+{
+    if sweep {
+        LoopSort::Sweep
+    } else {
+        LoopSort::Loop
+    }
+}
+
+// A breakloop leaves its loop, and the boxes inside it.
+pub(crate) fn run_break(s: Spot, around: Around) -> Effect
+    ensures { λ r. ⌜ r ≡ code.runBreak s around ⌝ }
+{
+    let sweep = around.sweep;
+    effects::saying(
+        spots::leave_to(s, around.outside, around.close, sweep),
+        What::Leave(loop_sort(sweep)),
+    )
 }

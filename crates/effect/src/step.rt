@@ -20,27 +20,15 @@ use super::tries;
 use state::Answer;
 use state::Control;
 use state::Fault;
-use state::LoopSort;
 use state::Meets;
 use state::Offer;
 use state::Refusal;
 use state::Status;
-use state::What;
 use table::Act;
 use table::Head;
 use table::Item;
 
-fn loop_sort(sweep: bool) -> LoopSort
-    ensures { λ r. ⌜ r ≡ code.loopSort sweep ⌝ }
-{
-    if sweep {
-        LoopSort::Sweep
-    } else {
-        LoopSort::Loop
-    }
-}
-
-// The item x at which the run stands, with no fault, and with what it wants.
+// What comes of the item x at which the run stands, where it has no fault and the offer is what it wants.
 fn run_item(s: Spot, x: Item, k: Cells, c: Chosen, around: Around, o: Offer) -> Effect
     ensures { λ r. ⌜ r ≡ code.runItem s x k c around o ⌝ }
 {
@@ -52,17 +40,9 @@ fn run_item(s: Spot, x: Item, k: Cells, c: Chosen, around: Around, o: Offer) -> 
         Item::Act(a) => acts::run_act(s, a, u, v, o),
         Item::Pack(p) => acts::run_pack(s, p, u),
         Item::Open(h) => marks::run_head(s, h, k, c, close, o),
-        Item::Branch(_) => effects::running(spots::leave_to(
-            s,
-            spots::below(s.depth),
-            close,
-            false,
-        )),
+        Item::Branch(_) => marks::leave_if(s, close),
         Item::Close(e) => marks::run_close(s, e, sweep),
-        Item::Break => effects::saying(
-            spots::leave_to(s, around.outside, close, sweep),
-            What::Leave(loop_sort(sweep)),
-        ),
+        Item::Break => marks::run_break(s, around),
         Item::Tag => effects::running(spots::go_on(s)),
     }
 }
@@ -112,32 +92,51 @@ fn item_meets(x: Item, o: Offer) -> Meets
     }
 }
 
-// One item, where the run stands at it; before is the spot before the step.
-fn at_item(before: Spot, s: Spot, looked: Looked, o: Offer) -> Effect
-    ensures { λ r. ⌜ r ≡ code.atItem before s looked o ⌝ }
+// What a step makes of a run, where the offer is what it wants; else the run waits, or stays as it was before the step.
+fn served(before: Spot, s: Spot, q: Meets, e: Effect) -> Effect
+    ensures { λ r. ⌜ r ≡ code.served before s (meetsOf q) e ⌝ }
+{
+    match q {
+        Meets::Ready => e,
+        Meets::Short => effects::still(s, Status::Live, Answer::Waiting),
+        Meets::Amiss => effects::still(before, Status::Live, Answer::Refused(Refusal::Reading)),
+    }
+}
+
+// The first fault of an item, or of the elseif to which it leads.
+fn trouble_of(s: Spot, looked: Looked) -> Trouble
+    ensures { λ r. ⌜ r ≡ code.troubleOf s looked ⌝ }
 {
     let x = looked.item;
     let k = looked.cells;
     let c = looked.chosen;
     let around = looked.around;
-    let t = faults::or_else(
+    faults::or_else(
         faults::fault_of(s, x, k, around.stray),
         tries::chosen_fault(c),
-    );
+    )
+}
+
+// An item that has no fault; before is the spot before the step.
+fn sound_item(before: Spot, s: Spot, looked: Looked, o: Offer) -> Effect
+    ensures { λ r. ⌜ r ≡ code.soundItem before s looked o ⌝ }
+{
+    let x = looked.item;
+    let k = looked.cells;
+    let c = looked.chosen;
+    let around = looked.around;
+    let e = run_item(s, x, k, c, around, o);
+    served(before, s, item_meets(x, o), e)
+}
+
+// One item, where the run stands at it.
+fn at_item(before: Spot, s: Spot, looked: Looked, o: Offer) -> Effect
+    ensures { λ r. ⌜ r ≡ code.atItem before s looked o ⌝ }
+{
+    let t = trouble_of(s, looked);
     match t {
+        Trouble::None => sound_item(before, s, looked, o),
         Trouble::Fault(f) => effects::fault_by(s, f),
-        Trouble::None => {
-            let q = item_meets(x, o);
-            match q {
-                Meets::Ready => run_item(s, x, k, c, around, o),
-                Meets::Short => effects::still(s, Status::Live, Answer::Waiting),
-                Meets::Amiss => effects::still(
-                    before,
-                    Status::Live,
-                    Answer::Refused(Refusal::Reading),
-                ),
-            }
-        }
     }
 }
 
@@ -145,12 +144,12 @@ fn at_item(before: Spot, s: Spot, looked: Looked, o: Offer) -> Effect
 fn leave_all(before: Spot, s: Spot, status: Status, a: Answer, o: Offer) -> Effect
     ensures { λ r. ⌜ r ≡ code.leaveAll before s status a o ⌝ }
 {
-    let q = state::asks_nothing(o);
-    match q {
-        Meets::Ready => effects::leaving(s, status, a),
-        Meets::Short => effects::still(s, Status::Live, Answer::Waiting),
-        Meets::Amiss => effects::still(before, Status::Live, Answer::Refused(Refusal::Reading)),
-    }
+    served(
+        before,
+        s,
+        state::asks_nothing(o),
+        effects::leaving(s, status, a),
+    )
 }
 
 fn finish(before: Spot, s: Spot, o: Offer) -> Effect
@@ -210,6 +209,29 @@ fn live(before: Spot, looked: Looked, c: Control, o: Offer) -> Effect
     at_end(before, s, o)
 }
 
+fn is_live(status: Status) -> bool
+    ensures { λ r. ⌜ r ≡ code.isLive status ⌝ }
+{
+    match status {
+        Status::Live => true,
+        Status::Finished => false,
+        Status::Stopped(_) => false,
+        Status::Fault(_) => false,
+    }
+}
+
+// What a run is, as an answer.
+fn answer_of(status: Status) -> Answer
+    ensures { λ r. ⌜ r ≡ code.answerOf status ⌝ }
+{
+    match status {
+        Status::Live => Answer::Running,
+        Status::Finished => Answer::Finished,
+        Status::Stopped(q) => Answer::Stopped(q),
+        Status::Fault(f) => Answer::Fault(f),
+    }
+}
+
 // One step from a spot and a status, with what was looked up; shaped says whether table and state are in shape.
 pub fn effect_of(
     shaped: bool,
@@ -224,10 +246,8 @@ pub fn effect_of(
     if !shaped {
         return effects::still(spot, status, Answer::Refused(Refusal::Shape));
     }
-    match status {
-        Status::Live => live(spot, looked, control, offer),
-        Status::Finished => effects::still(spot, status, Answer::Finished),
-        Status::Stopped(q) => effects::still(spot, status, Answer::Stopped(q)),
-        Status::Fault(f) => effects::still(spot, status, Answer::Fault(f)),
+    if is_live(status) {
+        return live(spot, looked, control, offer);
     }
+    effects::still(spot, status, answer_of(status))
 }

@@ -32,17 +32,20 @@ fn try_holding(holding: bool, at: usize) -> Tried
     Tried::Next
 }
 
+// An elseif, with the fault of what it reads.
+fn try_unless(t: Trouble, holding: bool, at: usize) -> Tried
+    ensures { λ r. ⌜ r ≡ code.tryUnless t holding at ⌝ }
+{
+    match t {
+        Trouble::None => try_holding(holding, at),
+        Trouble::Fault(f) => Tried::Go(Chosen::Bad(f)),
+    }
+}
+
 fn try_condition(c: Condition, k: Cells, at: usize) -> Tried
     ensures { λ r. ⌜ r ≡ code.tryCondition c k at ⌝ }
 {
-    let t = faults::read_fault(
-        faults::cells_missing(Need::Alike, k),
-        faults::cells_wrong(Need::Alike, k),
-    );
-    match t {
-        Trouble::Fault(f) => Tried::Go(Chosen::Bad(f)),
-        Trouble::None => try_holding(holds(c, k), at),
-    }
+    try_unless(faults::need_fault(Need::Alike, k), holds(c, k), at)
 }
 
 fn try_branch(b: Branch, k: Cells, at: usize) -> Tried
@@ -83,14 +86,15 @@ fn try_head(h: Head, k: Cells, at: usize) -> Tried
 pub fn try_first(item: Item, cells: Cells, at: usize) -> Tried
     ensures { λ r. ⌜ r ≡ code.tryFirst item cells at ⌝ }
 {
+    let nowhere = Tried::Go(Chosen::Into(0));
     match item {
-        Item::Act(_) => Tried::Go(Chosen::Into(0)),
-        Item::Pack(_) => Tried::Go(Chosen::Into(0)),
+        Item::Act(_) => nowhere,
+        Item::Pack(_) => nowhere,
         Item::Open(h) => try_head(h, cells, at),
-        Item::Branch(_) => Tried::Go(Chosen::Into(0)),
-        Item::Close(_) => Tried::Go(Chosen::Into(0)),
-        Item::Break => Tried::Go(Chosen::Into(0)),
-        Item::Tag => Tried::Go(Chosen::Into(0)),
+        Item::Branch(_) => nowhere,
+        Item::Close(_) => nowhere,
+        Item::Break => nowhere,
+        Item::Tag => nowhere,
     }
 }
 

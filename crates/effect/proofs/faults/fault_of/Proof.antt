@@ -1,3 +1,4 @@
+-- `effect::faults::fault_of`: what the item reads, then its mark, each as its function says it. Assumes nothing.
 use borrow.Author.Needs.{needs}
 use Rattle.effect.proofs.faults.fault_of.Statement.{statement}
 use Rattle.effect.proofs.faults.fault_of.Tie as tie
@@ -5,14 +6,8 @@ use Rattle.effect.proofs.faults.fault_of.Tie as tie
 need-of-requires : tie.Need-need-of-requires
 need-of-requires c κs = search needs
 
-cells-missing-requires : tie.Need-cells-missing-requires
-cells-missing-requires c κs = search needs
-
-cells-wrong-requires : tie.Need-cells-wrong-requires
-cells-wrong-requires c κs = search needs
-
-read-fault-requires : tie.Need-read-fault-requires
-read-fault-requires c κs = search needs
+need-fault-requires : tie.Need-need-fault-requires
+need-fault-requires c κs = search needs
 
 depth-fault-requires : tie.Need-depth-fault-requires
 depth-fault-requires c κs = search needs
@@ -28,20 +23,19 @@ or-else-requires c κs = search needs
 
 returns : tie.Need-returns
 returns c =
+    let d = c .before .before .before in
     simp (
       c .or-else .ensures,
       c .before .mark-fault .ensures,
       c .before .before .breaks-order .ensures,
-      c .before .before .before .depth-fault .ensures,
-      c .before .before .before .before .read-fault .ensures,
-      c .before .before .before .before .before .cells-wrong .ensures,
-      c .before .before .before .before .before .before .cells-missing .ensures,
-      c .before .before .before .before .before .before .before .need-of .ensures,
+      d .depth-fault .ensures,
+      d .before .need-fault .ensures,
+      d .before .before .need-of .ensures,
     )
 
 pub fault-of-spec : {M : Type 1} → statement M
 fault-of-spec =
     tie.close
     (tie.spec
-    need-of-requires cells-missing-requires cells-wrong-requires read-fault-requires depth-fault-requires
-    breaks-order-requires mark-fault-requires or-else-requires returns)
+    need-of-requires need-fault-requires depth-fault-requires breaks-order-requires mark-fault-requires
+    or-else-requires returns)

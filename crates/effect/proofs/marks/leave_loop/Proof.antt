@@ -1,5 +1,6 @@
-use mathlib.Core.Path.{sym, _∙_}
+-- `effect::marks::leave_loop`: out of the innermost box, or past a loop that was never entered. Assumes nothing.
 use borrow.Author.Needs.{needs}
+use mathlib.Core.Path.{sym, _∙_}
 use Rattle.effect.proofs.marks.leave_loop.Statement.{statement}
 use Rattle.effect.proofs.marks.leave_loop.Tie as tie
 
@@ -20,13 +21,13 @@ saying-requires c κs = search needs
 
 returns : tie.Need-returns
 returns c =
+    let t = c .before .before .before in
     simp (
       c .saying .ensures,
       c .before .leave-to .ensures,
       c .before .before .below .ensures,
-      sym (c .before .before .before .before .is-inside .ensures)
-          ∙ c .before .before .before .if1 .taken,
-      c .before .before .before .before .before .measures .ensures,
+      sym (t .before .is-inside .ensures) ∙ t .if1 .taken,
+      t .before .before .measures .ensures,
     )
 
 leave-to-requires-2 : tie.Need-leave-to-requires-2
@@ -37,17 +38,17 @@ acting-requires c κs = search needs
 
 returns-2 : tie.Need-returns-2
 returns-2 c =
+    let e = c .before .before in
     simp (
       c .acting .ensures,
       c .before .leave-to2 .ensures,
-      sym (c .before .before .before .is-inside .ensures)
-          ∙ c .before .before .if1 .left,
-      c .before .before .before .before .measures .ensures,
+      sym (e .before .is-inside .ensures) ∙ e .if1 .left,
+      e .before .before .measures .ensures,
     )
 
 pub leave-loop-spec : {M : Type 1} → statement M
 leave-loop-spec =
     tie.close
     (tie.spec
-    measures-requires is-inside-requires below-requires leave-to-requires saying-requires returns leave-to-requires-2
-    acting-requires returns-2)
+    measures-requires is-inside-requires below-requires leave-to-requires saying-requires returns
+    leave-to-requires-2 acting-requires returns-2)

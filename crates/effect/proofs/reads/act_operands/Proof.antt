@@ -1,3 +1,4 @@
+-- `effect::reads::act_operands`: what the callee of an arm made, and the arm. Assumes nothing.
 use borrow.Author.Needs.{needs}
 use Rattle.effect.proofs.reads.act_operands.Statement.{statement}
 use Rattle.effect.proofs.reads.act_operands.Tie as tie

@@ -1,8 +1,23 @@
-use mathlib.Core.Path.{sym, _∙_}
-use borrow.Author.Tests.{lt-ltb, le-ltb}
+-- `effect::step::live`: the control, then an abort that is due, the item, or the end of the text. Assumes nothing.
 use borrow.Author.Needs.{needs}
+use borrow.Author.Tests.{lt-ltb, le-ltb}
+use mathlib.Core.Bool.{false}
+use mathlib.Core.Path.{_≡_, sym, _∙_}
 use Rattle.effect.proofs.step.live.Statement.{statement}
 use Rattle.effect.proofs.step.live.Tie as tie
+use Rattle.effect.specs.Code.{abortDue}
+
+-- ---- the places
+
+-- where no abort is due
+module _ (c : tie.Else1) where
+  abbrev spot : tie.After-take-control
+  spot = c .before .before
+
+  none-due : abortDue (spot .take-control .result) (spot .before .before .args .looked .around .sweeping) ≡ false
+  none-due = sym (c .before .abort-due .ensures) ∙ c .if1 .left
+
+-- ---- the needs
 
 take-control-requires : tie.Need-take-control-requires
 take-control-requires c κs = search needs
@@ -15,10 +30,11 @@ abort-requires c κs = search needs
 
 returns : tie.Need-returns
 returns c =
+    let d = c .before .before in
     rw (
       c .abort .ensures,
-      ← (c .before .before .before .take-control .ensures),
-      sym (c .before .before .abort-due .ensures) ∙ c .before .if1 .taken,
+      ← (d .before .take-control .ensures),
+      sym (d .abort-due .ensures) ∙ c .before .if1 .taken,
     )
 
 at-item-requires : tie.Need-at-item-requires
@@ -26,26 +42,16 @@ at-item-requires c κs = search needs
 
 returns-2 : tie.Need-returns-2
 returns-2 c =
-    rw (
-      c .at-item .ensures,
-      ← (c .before .before .before .before .before .before .take-control .ensures),
-      sym (c .before .before .before .before .before .abort-due .ensures)
-          ∙ c .before .before .before .before .if1 .left,
-      lt-ltb _ _ (c .before .if2 .taken),
-    )
+    let e = c .before .before .before .before in
+    rw (c .at-item .ensures, ← (spot e .take-control .ensures), none-due e, lt-ltb _ _ (c .before .if2 .taken))
 
 at-end-requires : tie.Need-at-end-requires
 at-end-requires c κs = search needs
 
 returns-3 : tie.Need-returns-3
 returns-3 c =
-    rw (
-      c .at-end .ensures,
-      ← (c .before .before .before .before .before .before .take-control .ensures),
-      sym (c .before .before .before .before .before .abort-due .ensures)
-          ∙ c .before .before .before .before .if1 .left,
-      le-ltb _ _ (c .before .if2 .left),
-    )
+    let e = c .before .before .before .before in
+    rw (c .at-end .ensures, ← (spot e .take-control .ensures), none-due e, le-ltb _ _ (c .before .if2 .left))
 
 pub live-spec : {M : Type 1} → statement M
 live-spec =

@@ -1,3 +1,4 @@
+-- `effect::step::run_item`: what the callee of an arm made, and the arm. Assumes nothing.
 use borrow.Author.Needs.{needs}
 use Rattle.effect.proofs.step.run_item.Statement.{statement}
 use Rattle.effect.proofs.step.run_item.Tie as tie
@@ -23,14 +24,8 @@ run-head-requires c κs = search needs
 enum-told : tie.Need-enum-told
 enum-told c = search needs
 
-below-requires : tie.Need-below-requires
-below-requires c κs = search needs
-
-leave-to-requires : tie.Need-leave-to-requires
-leave-to-requires c κs = search needs
-
-running-requires : tie.Need-running-requires
-running-requires c κs = search needs
+leave-if-requires : tie.Need-leave-if-requires
+leave-if-requires c κs = search needs
 
 enum-known-x-4 : tie.Need-enum-known-x-4
 enum-known-x-4 c = search needs
@@ -41,14 +36,8 @@ run-close-requires c κs = search needs
 enum-told-2 : tie.Need-enum-told-2
 enum-told-2 c = search needs
 
-leave-to-requires-2 : tie.Need-leave-to-requires-2
-leave-to-requires-2 c κs = search needs
-
-loop-sort-requires : tie.Need-loop-sort-requires
-loop-sort-requires c κs = search needs
-
-saying-requires : tie.Need-saying-requires
-saying-requires c κs = search needs
+run-break-requires : tie.Need-run-break-requires
+run-break-requires c κs = search needs
 
 enum-told-3 : tie.Need-enum-told-3
 enum-told-3 c = search needs
@@ -56,8 +45,8 @@ enum-told-3 c = search needs
 go-on-requires : tie.Need-go-on-requires
 go-on-requires c κs = search needs
 
-running-requires-2 : tie.Need-running-requires-2
-running-requires-2 c κs = search needs
+running-requires : tie.Need-running-requires
+running-requires c κs = search needs
 
 returns : tie.Need-returns
 returns c = simp (c .run-act .ensures, c .before .before .x .given .1)
@@ -69,34 +58,21 @@ returns-3 : tie.Need-returns-3
 returns-3 c = simp (c .run-head .ensures, c .before .before .x3 .given .1)
 
 returns-4 : tie.Need-returns-4
-returns-4 c =
-    simp (
-      c .running .ensures,
-      c .before .leave-to .ensures,
-      c .before .before .below .ensures,
-      c .before .before .before .enum-told .given .1,
-    )
+returns-4 c = simp (c .leave-if .ensures, c .before .enum-told .given .1)
 
 returns-5 : tie.Need-returns-5
 returns-5 c = simp (c .run-close .ensures, c .before .before .x4 .given .1)
 
 returns-6 : tie.Need-returns-6
-returns-6 c =
-    simp (
-      c .saying .ensures,
-      c .before .loop-sort .ensures,
-      c .before .before .leave-to2 .ensures,
-      c .before .before .before .enum-told2 .given .1,
-    )
+returns-6 c = simp (c .run-break .ensures, c .before .enum-told2 .given .1)
 
 returns-7 : tie.Need-returns-7
-returns-7 c = simp (c .running2 .ensures, c .before .go-on .ensures, c .before .before .enum-told3 .given .1)
+returns-7 c = simp (c .running .ensures, c .before .go-on .ensures, c .before .before .enum-told3 .given .1)
 
 pub run-item-spec : {M : Type 1} → statement M
 run-item-spec =
     tie.close
     (tie.spec
     enum-known-x run-act-requires enum-known-x-2 run-pack-requires enum-known-x-3 run-head-requires enum-told
-    below-requires leave-to-requires running-requires enum-known-x-4 run-close-requires enum-told-2
-    leave-to-requires-2 loop-sort-requires saying-requires enum-told-3 go-on-requires running-requires-2 returns
-    returns-2 returns-3 returns-4 returns-5 returns-6 returns-7)
+    leave-if-requires enum-known-x-4 run-close-requires enum-told-2 run-break-requires enum-told-3 go-on-requires
+    running-requires returns returns-2 returns-3 returns-4 returns-5 returns-6 returns-7)
