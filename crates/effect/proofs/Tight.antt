@@ -3,10 +3,21 @@ use Prim.Native.Nat.{ℕ}
 use mathlib.Core.Bool.{Bool}
 use mathlib.Core.Path.{_≡_, sym, _∙_}
 use Rattle.table.specs.declared.Item.{Item}
-use Rattle.effect.specs.Words.{Var, Control, Offer, Status, Spot, Write, Effect, Operands, Places, Cells, Chosen}
-use Rattle.effect.specs.Words.{Tried, Looked}
+use Rattle.state.specs.declared.Control.{Control}
+use Rattle.state.specs.declared.Offer.{Offer}
+use Rattle.state.specs.declared.Status.{Status}
+use Rattle.state.specs.declared.Var.{Var}
 use Rattle.effect.specs.Code.{operandsOf, placesOf, cellsOf, writePlace, writeOver, boxesLeft, tryMate, tryFirst}
 use Rattle.effect.specs.Code.{triesOn, chosenBy, effectOf}
+use Rattle.effect.specs.declared.Cells.{Cells}
+use Rattle.effect.specs.declared.Chosen.{Chosen}
+use Rattle.effect.specs.declared.Effect.{Effect}
+use Rattle.effect.specs.declared.Looked.{Looked}
+use Rattle.effect.specs.declared.Operands.{Operands}
+use Rattle.effect.specs.declared.Places.{Places}
+use Rattle.effect.specs.declared.Spot.{Spot}
+use Rattle.effect.specs.declared.Tried.{Tried}
+use Rattle.effect.specs.declared.Write.{Write}
 
 pub only-operands-of : (item : Item) (r r′ : Operands) → r ≡ operandsOf item → r′ ≡ operandsOf item → r ≡ r′
 only-operands-of item r r′ e f = e ∙ sym f

@@ -5,45 +5,70 @@ use mathlib.Core.Bool.{Bool, true, false, not, _&&_, _||_, cond}
 use lib.Dec.{eqb, ltb, leb}
 use lib.IntN.{pos}
 use lib.ListN.{getD, set}
-use Rattle.value.specs.declared.Value.the-variants.{Whole as whole, Real as real}
-use Rattle.value.specs.declared.Calculated.{Calculated}
-use Rattle.value.specs.declared.Calculated.the-variants.{Value as got, ByZero as dividedByZero, NotFinite as overflows}
 use Rattle.value.specs.Arithmetic.{finite, calculated, checked, compares}
-use Rattle.table.specs.declared.Operand.{Operand}
-use Rattle.table.specs.declared.Operand.the-variants.{Name as name, Literal as literal}
-use Rattle.table.specs.declared.Condition.{Condition}
-use Rattle.table.specs.declared.Sweep.{Sweep}
-use Rattle.table.specs.declared.Act.{Act}
-use Rattle.table.specs.declared.Act.the-variants.{Var as var, Store as store, Copy as copy, Calc as calc, Meas as meas}
-use Rattle.table.specs.declared.Act.the-variants.{TimerGet as timerGet, SendString as sendString, Wait as wait}
-use Rattle.table.specs.declared.Act.the-variants.{SetE as setE, SetMode as setMode, TimerStart as timerStart}
-use Rattle.table.specs.declared.Act.the-variants.{CellOn as cellOn, CellOff as cellOff, Abort as abortAct}
-use Rattle.table.specs.declared.Pack.{Pack}
-use Rattle.table.specs.declared.Pack.the-variants.{Start as pckStart, Add as pckAdd, End as pckEnd}
-use Rattle.table.specs.declared.Head.{Head}
-use Rattle.table.specs.declared.Head.the-variants.{If as if', Loop as loop, Sweep as sweep}
-use Rattle.table.specs.declared.Branch.{Branch}
-use Rattle.table.specs.declared.Branch.the-variants.{ElseIf as elseif, Else as else}
-use Rattle.table.specs.declared.Close.{Close}
-use Rattle.table.specs.declared.Close.the-variants.{EndIf as endif, EndLoop as endloop}
-use Rattle.table.specs.declared.Item.{Item}
-use Rattle.table.specs.declared.Item.the-variants.{Act as act, Pack as pack, Open as opens, Branch as branch}
-use Rattle.table.specs.declared.Item.the-variants.{Close as closes, Break as breakloop, Tag as tag}
 use Rattle.table.specs.Uses.{breaksOrder}
 use Rattle.state.specs.State as rules
 use Rattle.state.specs.State.{cellValue, cellType, measures, reading, da, ba, eb}
-use Rattle.effect.specs.Words.{Cell, unwritten, held, Control, noControl, Z, Y, Offer, nothing, oneFloat}
-use Rattle.effect.specs.Words.{onePoint, done, Point, Var, Stop, byZero, notFinite, Fault, unwrittenFault}
-use Rattle.effect.specs.Words.{kindFault, boxFault, depthFault, packageFault}
-use Rattle.effect.specs.Words.{shapeRefusal, readingRefusal, Status, live, finishedRun, stoppedRun, faultRun}
-use Rattle.effect.specs.Words.{Answer, running, waiting, finished, stopped, fault, refused, orderWait, orderSetE}
-use Rattle.effect.specs.Words.{orderSetMode, orderCellOn, orderCellOff, LoopSort, aLoop, aSweep}
-use Rattle.effect.specs.Words.{What, noThing, entered, left, started, part, ends, text, order, Spot, Write}
-use Rattle.effect.specs.Words.{noWrite, puts, Effect, Operands, Places, Cells, Chosen, into, beyond, bad, Tried}
-use Rattle.effect.specs.Words.{goes, onward, Around, Looked, Trouble, sound, because}
-use Rattle.effect.specs.Words.{Need, needsNothing, needsAny, needsAlike, needsFloat, needsFour}
+use Rattle.value.specs.declared.Calculated.{Calculated}
+use Rattle.value.specs.declared.Calculated.the-variants as Calculated
+use Rattle.value.specs.declared.Value.the-variants as Value
+use Rattle.table.specs.declared.Act.{Act}
+use Rattle.table.specs.declared.Act.the-variants as Act
+use Rattle.table.specs.declared.Branch.{Branch}
+use Rattle.table.specs.declared.Branch.the-variants as Branch
+use Rattle.table.specs.declared.Close.{Close}
+use Rattle.table.specs.declared.Close.the-variants as Close
+use Rattle.table.specs.declared.Condition.{Condition}
+use Rattle.table.specs.declared.Head.{Head}
+use Rattle.table.specs.declared.Head.the-variants as Head
+use Rattle.table.specs.declared.Item.{Item}
+use Rattle.table.specs.declared.Item.the-variants as Item
+use Rattle.table.specs.declared.Operand.{Operand}
+use Rattle.table.specs.declared.Operand.the-variants as Operand
+use Rattle.table.specs.declared.Pack.{Pack}
+use Rattle.table.specs.declared.Pack.the-variants as Pack
+use Rattle.table.specs.declared.Sweep.{Sweep}
+use Rattle.state.specs.declared.Answer.{Answer}
+use Rattle.state.specs.declared.Answer.the-variants as Answer
+use Rattle.state.specs.declared.Cell.{Cell}
+use Rattle.state.specs.declared.Cell.the-variants as Cell
+use Rattle.state.specs.declared.Control.{Control}
+use Rattle.state.specs.declared.Control.the-variants as Control
+use Rattle.state.specs.declared.Fault.{Fault}
+use Rattle.state.specs.declared.Fault.the-variants as Fault
+use Rattle.state.specs.declared.LoopSort.{LoopSort}
+use Rattle.state.specs.declared.LoopSort.the-variants as LoopSort
+use Rattle.state.specs.declared.Offer.{Offer}
+use Rattle.state.specs.declared.Offer.the-variants as Offer
+use Rattle.state.specs.declared.Order.the-variants as Order
+use Rattle.state.specs.declared.Point.{Point}
+use Rattle.state.specs.declared.Refusal.the-variants as Refusal
+use Rattle.state.specs.declared.Status.{Status}
+use Rattle.state.specs.declared.Status.the-variants as Status
+use Rattle.state.specs.declared.Stop.{Stop}
+use Rattle.state.specs.declared.Stop.the-variants as Stop
+use Rattle.state.specs.declared.Var.{Var}
+use Rattle.state.specs.declared.What.{What}
+use Rattle.state.specs.declared.What.the-variants as What
+use Rattle.effect.specs.declared.Around.{Around}
+use Rattle.effect.specs.declared.Cells.{Cells}
+use Rattle.effect.specs.declared.Chosen.{Chosen}
+use Rattle.effect.specs.declared.Chosen.the-variants as Chosen
+use Rattle.effect.specs.declared.Effect.{Effect}
+use Rattle.effect.specs.declared.Looked.{Looked}
+use Rattle.effect.specs.declared.Need.{Need}
+use Rattle.effect.specs.declared.Need.the-variants as Need
+use Rattle.effect.specs.declared.Operands.{Operands}
+use Rattle.effect.specs.declared.Places.{Places}
+use Rattle.effect.specs.declared.Spot.{Spot}
+use Rattle.effect.specs.declared.Tried.{Tried}
+use Rattle.effect.specs.declared.Tried.the-variants as Tried
+use Rattle.effect.specs.declared.Trouble.{Trouble}
+use Rattle.effect.specs.declared.Trouble.the-variants as Trouble
+use Rattle.effect.specs.declared.Write.{Write}
+use Rattle.effect.specs.declared.Write.the-variants as Write
 
--- ---- the spot anew
+-- ---- src/spots.rt: the spot anew
 
 abbrev pub after : ℕ → ℕ
 after n = cond (ltb n 128) (n + 1) n
@@ -68,9 +93,9 @@ withSkip s b =
     record { at = s .at; boxes = s .boxes; depth = s .depth; pending = s .pending; skip = b; packed = s .packed }
 
 abbrev pub takeControl : Spot → Control → Bool → Spot
-takeControl s noControl b = s
-takeControl s Z b = withPending s
-takeControl s Y b = withSkip s (s .skip || b)
+takeControl s Control.None b = s
+takeControl s Control.Z b = withPending s
+takeControl s Control.Y b = withSkip s (s .skip || b)
 
 abbrev pub leaveTo : Spot → ℕ → ℕ → Bool → Spot
 leaveTo s d i b =
@@ -102,11 +127,20 @@ topOf s = cond (ltb (below (s .depth)) 8) (getD (s .boxes) (below (s .depth)) 0)
 abbrev pub isInside : Spot → Bool
 isInside s = cond (eqb (s .depth) 0) false (eqb (topOf s) (s .at))
 
--- ---- effects
+-- ---- src/effects.rt: the effects that steps have
 
 abbrev pub acting : Spot → What → What → Write → Write → Effect
 acting s v w p q =
-    record { spot = s; status = live; answer = running; one = v; two = w; leaves = false; first = p; second = q }
+    record {
+      spot = s;
+      status = Status.Live;
+      answer = Answer.Running;
+      one = v;
+      two = w;
+      leaves = false;
+      first = p;
+      second = q;
+    }
 
 abbrev pub still : Spot → Status → Answer → Effect
 still s t a =
@@ -114,11 +148,11 @@ still s t a =
       spot = s;
       status = t;
       answer = a;
-      one = noThing;
-      two = noThing;
+      one = What.Nothing;
+      two = What.Nothing;
       leaves = false;
-      first = noWrite;
-      second = noWrite;
+      first = Write.Nothing;
+      second = Write.Nothing;
     }
 
 abbrev pub leaving : Spot → Status → Answer → Effect
@@ -127,32 +161,32 @@ leaving s t a =
       spot = s;
       status = t;
       answer = a;
-      one = noThing;
-      two = noThing;
+      one = What.Nothing;
+      two = What.Nothing;
       leaves = true;
-      first = noWrite;
-      second = noWrite;
+      first = Write.Nothing;
+      second = Write.Nothing;
     }
 
 abbrev pub runs : Spot → Effect
-runs s = still s live running
+runs s = still s Status.Live Answer.Running
 
 abbrev pub saying : Spot → What → Effect
-saying s w = acting s w noThing noWrite noWrite
+saying s w = acting s w What.Nothing Write.Nothing Write.Nothing
 
 abbrev pub writing : Spot → Write → Effect
-writing s w = acting s noThing noThing w noWrite
+writing s w = acting s What.Nothing What.Nothing w Write.Nothing
 
 abbrev pub faultBy : Spot → Fault → Effect
-faultBy s f = still s (faultRun f) (fault f)
+faultBy s f = still s (Status.Fault f) (Answer.Fault f)
 
 abbrev pub stopBy : Spot → Stop → Effect
-stopBy s q = still s (stoppedRun q) (stopped q)
+stopBy s q = still s (Status.Stopped q) (Answer.Stopped q)
 
--- ---- what an item reads; past the last operand a literal 0
+-- ---- src/reads.rt: what an item reads; past the last operand a literal 0
 
 abbrev pub noOperand : Operand
-noOperand = literal (whole (pos 0))
+noOperand = Operand.Literal (Value.Whole (pos 0))
 
 abbrev pub twoOperands : Operand → Operand → Operands
 twoOperands x y = record { a = x; b = y; c = noOperand; d = noOperand }
@@ -170,79 +204,78 @@ abbrev pub sweepOperands : Sweep → Operands
 sweepOperands w = record { a = w .begin; b = w .end; c = w .step; d = w .rate }
 
 abbrev pub actOperands : Act → Operands
-actOperands (var v) = noOperands
-actOperands (store v l t) = noOperands
-actOperands (copy n m) = oneOperand (name n)
-actOperands (calc o n x) = twoOperands (name n) x
-actOperands (meas x v t) = oneOperand x
-actOperands (timerGet v) = noOperands
-actOperands (sendString s) = noOperands
-actOperands (wait x) = oneOperand x
-actOperands (setE x) = oneOperand x
-actOperands (setMode n) = noOperands
-actOperands timerStart = noOperands
-actOperands cellOn = noOperands
-actOperands cellOff = noOperands
-actOperands abortAct = noOperands
+actOperands (Act.Var v) = noOperands
+actOperands (Act.Store v l t) = noOperands
+actOperands (Act.Copy n m) = oneOperand (Operand.Name n)
+actOperands (Act.Calc o n x) = twoOperands (Operand.Name n) x
+actOperands (Act.Meas x v t) = oneOperand x
+actOperands (Act.TimerGet v) = noOperands
+actOperands (Act.SendString s) = noOperands
+actOperands (Act.Wait x) = oneOperand x
+actOperands (Act.SetE x) = oneOperand x
+actOperands (Act.SetMode n) = noOperands
+actOperands Act.TimerStart = noOperands
+actOperands Act.CellOn = noOperands
+actOperands Act.CellOff = noOperands
+actOperands Act.Abort = noOperands
 
 abbrev pub packOperands : Pack → Operands
-packOperands pckStart = noOperands
-packOperands (pckAdd n) = oneOperand (name n)
-packOperands pckEnd = noOperands
+packOperands Pack.Start = noOperands
+packOperands (Pack.Add n) = oneOperand (Operand.Name n)
+packOperands Pack.End = noOperands
 
 abbrev pub headOperands : Head → Operands
-headOperands (if' c) = conditionOperands c
-headOperands (loop c) = conditionOperands c
-headOperands (sweep w) = sweepOperands w
+headOperands (Head.If c) = conditionOperands c
+headOperands (Head.Loop c) = conditionOperands c
+headOperands (Head.Sweep w) = sweepOperands w
 
 abbrev pub branchOperands : Branch → Operands
-branchOperands (elseif c) = conditionOperands c
-branchOperands else = noOperands
+branchOperands (Branch.ElseIf c) = conditionOperands c
+branchOperands Branch.Else = noOperands
 
 abbrev pub operandsOf : Item → Operands
-operandsOf (act a) = actOperands a
-operandsOf (pack p) = packOperands p
-operandsOf (opens h) = headOperands h
-operandsOf (branch b) = branchOperands b
-operandsOf (closes e) = noOperands
-operandsOf breakloop = noOperands
-operandsOf tag = noOperands
+operandsOf (Item.Act a) = actOperands a
+operandsOf (Item.Pack p) = packOperands p
+operandsOf (Item.Open h) = headOperands h
+operandsOf (Item.Branch b) = branchOperands b
+operandsOf (Item.Close e) = noOperands
+operandsOf Item.Break = noOperands
+operandsOf Item.Tag = noOperands
 
--- the row of 32 names: where an operand and a write stand in it, the first place where in none; what they make of what
--- stands there
+-- the row of 32 names: where an operand stands in it, the first place where in none; and what it holds
 
 abbrev pub inRow : ℕ → ℕ
 inRow n = cond (ltb n 32) n 0
 
 abbrev pub placeOf : Operand → ℕ
-placeOf (name n) = inRow n
-placeOf (literal l) = 0
+placeOf (Operand.Name n) = inRow n
+placeOf (Operand.Literal l) = 0
 
 abbrev pub placesOf : Operands → Places
 placesOf o = record { a = placeOf (o .a); b = placeOf (o .b); c = placeOf (o .c); d = placeOf (o .d) }
 
 abbrev pub cellIn : ℕ → Var → Cell
-cellIn n v = cond (ltb n 32) (v .cell) unwritten
+cellIn n v = cond (ltb n 32) (v .cell) Cell.Unwritten
 
 abbrev pub cellOf : Operand → Var → Cell
-cellOf (name n) v = cellIn n v
-cellOf (literal l) v = held l 0
+cellOf (Operand.Name n) v = cellIn n v
+cellOf (Operand.Literal l) v = Cell.Holds l 0
 
 abbrev pub cellsOf : Operands → Var → Var → Var → Var → Cells
 cellsOf o x y z u = record { a = cellOf (o .a) x; b = cellOf (o .b) y; c = cellOf (o .c) z; d = cellOf (o .d) u }
 
+-- ---- src/writes.rt: what an item writes, and what a step leaves
+
 abbrev pub writePlace : Write → ℕ
-writePlace noWrite = 0
-writePlace (puts n c) = inRow n
+writePlace Write.Nothing = 0
+writePlace (Write.Put n c) = inRow n
 
 abbrev pub putIn : ℕ → Cell → Var → Var
 putIn n c v = cond (ltb n 32) (record { cell = c }) v
 
 abbrev pub writeOver : Write → Var → Var
-writeOver noWrite v = v
-writeOver (puts n c) v = putIn n c v
-
--- ---- what is handed out
+writeOver Write.Nothing v = v
+writeOver (Write.Put n c) v = putIn n c v
 
 abbrev pub least : ℕ → ℕ → ℕ
 least n k = cond (leb n k) n k
@@ -250,276 +283,297 @@ least n k = cond (leb n k) n k
 abbrev pub boxesLeft : Bool → ℕ → ℕ → ℕ
 boxesLeft b d h = cond (b && eqb h 0) (least d 8) 0
 
--- ---- faults
+-- ---- src/faults.rt: the faults of an item where the run stands
 
 abbrev pub actNeed : Act → Need
-actNeed (var v) = needsNothing
-actNeed (store v l t) = needsNothing
-actNeed (copy n m) = needsAny
-actNeed (calc o n x) = needsAlike
-actNeed (meas x v t) = needsFloat
-actNeed (timerGet v) = needsNothing
-actNeed (sendString s) = needsNothing
-actNeed (wait x) = needsFloat
-actNeed (setE x) = needsFloat
-actNeed (setMode n) = needsNothing
-actNeed timerStart = needsNothing
-actNeed cellOn = needsNothing
-actNeed cellOff = needsNothing
-actNeed abortAct = needsNothing
+actNeed (Act.Var v) = Need.Nothing
+actNeed (Act.Store v l t) = Need.Nothing
+actNeed (Act.Copy n m) = Need.Any
+actNeed (Act.Calc o n x) = Need.Alike
+actNeed (Act.Meas x v t) = Need.Float
+actNeed (Act.TimerGet v) = Need.Nothing
+actNeed (Act.SendString s) = Need.Nothing
+actNeed (Act.Wait x) = Need.Float
+actNeed (Act.SetE x) = Need.Float
+actNeed (Act.SetMode n) = Need.Nothing
+actNeed Act.TimerStart = Need.Nothing
+actNeed Act.CellOn = Need.Nothing
+actNeed Act.CellOff = Need.Nothing
+actNeed Act.Abort = Need.Nothing
 
 abbrev pub packNeed : Pack → Need
-packNeed pckStart = needsNothing
-packNeed (pckAdd n) = needsAny
-packNeed pckEnd = needsNothing
+packNeed Pack.Start = Need.Nothing
+packNeed (Pack.Add n) = Need.Any
+packNeed Pack.End = Need.Nothing
 
 abbrev pub headNeed : Head → Need
-headNeed (if' c) = needsAlike
-headNeed (loop c) = needsAlike
-headNeed (sweep w) = needsFour
+headNeed (Head.If c) = Need.Alike
+headNeed (Head.Loop c) = Need.Alike
+headNeed (Head.Sweep w) = Need.Four
 
 abbrev pub needOf : Item → Need
-needOf (act a) = actNeed a
-needOf (pack p) = packNeed p
-needOf (opens h) = headNeed h
-needOf (branch b) = needsNothing
-needOf (closes e) = needsNothing
-needOf breakloop = needsNothing
-needOf tag = needsNothing
+needOf (Item.Act a) = actNeed a
+needOf (Item.Pack p) = packNeed p
+needOf (Item.Open h) = headNeed h
+needOf (Item.Branch b) = Need.Nothing
+needOf (Item.Close e) = Need.Nothing
+needOf Item.Break = Need.Nothing
+needOf Item.Tag = Need.Nothing
 
 abbrev pub isGone : Cell → Bool
-isGone unwritten = true
-isGone (held v t) = false
+isGone Cell.Unwritten = true
+isGone (Cell.Holds v t) = false
 
 abbrev pub isWhole : Cell → Bool
-isWhole unwritten = false
-isWhole (held (whole z) t) = true
-isWhole (held (real x) t) = false
+isWhole Cell.Unwritten = false
+isWhole (Cell.Holds (Value.Whole z) t) = true
+isWhole (Cell.Holds (Value.Real x) t) = false
 
 abbrev pub isReal : Cell → Bool
-isReal unwritten = false
-isReal (held (whole z) t) = false
-isReal (held (real x) t) = true
+isReal Cell.Unwritten = false
+isReal (Cell.Holds (Value.Whole z) t) = false
+isReal (Cell.Holds (Value.Real x) t) = true
 
 abbrev pub cellsMissing : Need → Cells → Bool
-cellsMissing needsNothing k = false
-cellsMissing needsAny k = isGone (k .a)
-cellsMissing needsAlike k = isGone (k .a) || isGone (k .b)
-cellsMissing needsFloat k = isGone (k .a)
-cellsMissing needsFour k = ((isGone (k .d) || isGone (k .c)) || isGone (k .b)) || isGone (k .a)
+cellsMissing Need.Nothing k = false
+cellsMissing Need.Any k = isGone (k .a)
+cellsMissing Need.Alike k = isGone (k .a) || isGone (k .b)
+cellsMissing Need.Float k = isGone (k .a)
+cellsMissing Need.Four k = ((isGone (k .d) || isGone (k .c)) || isGone (k .b)) || isGone (k .a)
 
 abbrev pub kindsDiffer : Cell → Cell → Bool
 kindsDiffer x y = (isWhole x && isReal y) || (isReal x && isWhole y)
 
 abbrev pub cellsWrong : Need → Cells → Bool
-cellsWrong needsNothing k = false
-cellsWrong needsAny k = false
-cellsWrong needsAlike k = kindsDiffer (k .a) (k .b)
-cellsWrong needsFloat k = isWhole (k .a)
-cellsWrong needsFour k = ((isWhole (k .d) || isWhole (k .c)) || isWhole (k .b)) || isWhole (k .a)
+cellsWrong Need.Nothing k = false
+cellsWrong Need.Any k = false
+cellsWrong Need.Alike k = kindsDiffer (k .a) (k .b)
+cellsWrong Need.Float k = isWhole (k .a)
+cellsWrong Need.Four k = ((isWhole (k .d) || isWhole (k .c)) || isWhole (k .b)) || isWhole (k .a)
 
 abbrev pub ninthBox : Spot → Head → Bool
-ninthBox s (if' c) = true
-ninthBox s (loop c) = not (isInside s)
-ninthBox s (sweep w) = not (isInside s)
+ninthBox s (Head.If c) = true
+ninthBox s (Head.Loop c) = not (isInside s)
+ninthBox s (Head.Sweep w) = not (isInside s)
 
 abbrev pub deepItem : Spot → Item → Bool
-deepItem s (act a) = false
-deepItem s (pack p) = false
-deepItem s (opens h) = ninthBox s h
-deepItem s (branch b) = false
-deepItem s (closes e) = false
-deepItem s breakloop = false
-deepItem s tag = false
+deepItem s (Item.Act a) = false
+deepItem s (Item.Pack p) = false
+deepItem s (Item.Open h) = ninthBox s h
+deepItem s (Item.Branch b) = false
+deepItem s (Item.Close e) = false
+deepItem s Item.Break = false
+deepItem s Item.Tag = false
 
 abbrev pub depthFault′ : Spot → Item → Bool
 depthFault′ s x = cond (ltb (s .depth) 8) false (deepItem s x)
 
 abbrev pub readFault : Bool → Bool → Trouble
-readFault b c = cond b (because unwrittenFault) (cond c (because kindFault) sound)
+readFault b c = cond b (Trouble.Fault Fault.Unwritten) (cond c (Trouble.Fault Fault.Kind) Trouble.None)
+
+abbrev pub needFault : Need → Cells → Trouble
+needFault n k = readFault (cellsMissing n k) (cellsWrong n k)
 
 abbrev pub markFault : Bool → Bool → Bool → Trouble
-markFault b c d = cond b (because boxFault) (cond c (because depthFault) (cond d (because packageFault) sound))
+markFault b c d =
+    cond b (Trouble.Fault Fault.Box)
+    (cond c (Trouble.Fault Fault.Depth) (cond d (Trouble.Fault Fault.Package) Trouble.None))
 
 abbrev pub orElse : Trouble → Trouble → Trouble
-orElse sound t = t
-orElse (because f) t = because f
+orElse Trouble.None t = t
+orElse (Trouble.Fault f) t = Trouble.Fault f
 
 abbrev pub faultOf : Spot → Item → Cells → Bool → Trouble
 faultOf s x k b =
-    orElse (readFault (cellsMissing (needOf x) k) (cellsWrong (needOf x) k))
+    orElse (needFault (needOf x) k)
     (markFault b (depthFault′ s x) (breaksOrder x (s .packed)))
 
--- ---- the mates that a false condition tries
+-- ---- src/tries.rt: the mates that a false condition tries
 
 abbrev pub holds : Condition → Cells → Bool
 holds c k = compares (c .by) (cellValue (k .a)) (cellValue (k .b))
 
 abbrev pub tryHolding : Bool → ℕ → Tried
-tryHolding b i = cond b (goes (into (after i))) onward
+tryHolding b i = cond b (Tried.Go (Chosen.Into (after i))) Tried.Next
 
 -- an elseif, with the fault of what it reads
 abbrev pub tryUnless : Trouble → Bool → ℕ → Tried
-tryUnless sound b i = tryHolding b i
-tryUnless (because f) b i = goes (bad f)
+tryUnless Trouble.None b i = tryHolding b i
+tryUnless (Trouble.Fault f) b i = Tried.Go (Chosen.Bad f)
 
 abbrev pub tryCondition : Condition → Cells → ℕ → Tried
-tryCondition c k i = tryUnless (readFault (cellsMissing needsAlike k) (cellsWrong needsAlike k)) (holds c k) i
+tryCondition c k i = tryUnless (needFault Need.Alike k) (holds c k) i
 
 abbrev pub tryBranch : Branch → Cells → ℕ → Tried
-tryBranch (elseif c) k i = tryCondition c k i
-tryBranch else k i = goes (into (after i))
+tryBranch (Branch.ElseIf c) k i = tryCondition c k i
+tryBranch Branch.Else k i = Tried.Go (Chosen.Into (after i))
 
 abbrev pub tryMate : Item → Cells → ℕ → Tried
-tryMate (act a) k i = onward
-tryMate (pack p) k i = onward
-tryMate (opens h) k i = onward
-tryMate (branch b) k i = tryBranch b k i
-tryMate (closes e) k i = goes (beyond (after i))
-tryMate breakloop k i = onward
-tryMate tag k i = onward
+tryMate (Item.Act a) k i = Tried.Next
+tryMate (Item.Pack p) k i = Tried.Next
+tryMate (Item.Open h) k i = Tried.Next
+tryMate (Item.Branch b) k i = tryBranch b k i
+tryMate (Item.Close e) k i = Tried.Go (Chosen.Beyond (after i))
+tryMate Item.Break k i = Tried.Next
+tryMate Item.Tag k i = Tried.Next
 
 abbrev pub tryHead : Head → Cells → ℕ → Tried
-tryHead (if' c) k i = tryHolding (holds c k) i
-tryHead (loop c) k i = goes (into 0)
-tryHead (sweep w) k i = goes (into 0)
+tryHead (Head.If c) k i = tryHolding (holds c k) i
+tryHead (Head.Loop c) k i = Tried.Go (Chosen.Into 0)
+tryHead (Head.Sweep w) k i = Tried.Go (Chosen.Into 0)
 
 abbrev pub tryFirst : Item → Cells → ℕ → Tried
-tryFirst (act a) k i = goes (into 0)
-tryFirst (pack p) k i = goes (into 0)
-tryFirst (opens h) k i = tryHead h k i
-tryFirst (branch b) k i = goes (into 0)
-tryFirst (closes e) k i = goes (into 0)
-tryFirst breakloop k i = goes (into 0)
-tryFirst tag k i = goes (into 0)
+tryFirst (Item.Act a) k i = Tried.Go (Chosen.Into 0)
+tryFirst (Item.Pack p) k i = Tried.Go (Chosen.Into 0)
+tryFirst (Item.Open h) k i = tryHead h k i
+tryFirst (Item.Branch b) k i = Tried.Go (Chosen.Into 0)
+tryFirst (Item.Close e) k i = Tried.Go (Chosen.Into 0)
+tryFirst Item.Break k i = Tried.Go (Chosen.Into 0)
+tryFirst Item.Tag k i = Tried.Go (Chosen.Into 0)
 
 abbrev pub triesOn : Tried → ℕ → ℕ → Bool
-triesOn (goes c) i n = false
-triesOn onward i n = ltb i n
+triesOn (Tried.Go c) i n = false
+triesOn Tried.Next i n = ltb i n
 
 abbrev pub chosenBy : Tried → Chosen
-chosenBy (goes c) = c
-chosenBy onward = bad boxFault
+chosenBy (Tried.Go c) = c
+chosenBy Tried.Next = Chosen.Bad Fault.Box
 
 abbrev pub chosenFault : Chosen → Trouble
-chosenFault (into i) = sound
-chosenFault (beyond i) = sound
-chosenFault (bad f) = because f
+chosenFault (Chosen.Into i) = Trouble.None
+chosenFault (Chosen.Beyond i) = Trouble.None
+chosenFault (Chosen.Bad f) = Trouble.Fault f
 
--- ---- one item
+-- ---- src/acts.rt: acts and package marks
 
 abbrev pub keepResult : Spot → ℕ → ℕ → Calculated → Effect
-keepResult s n t (got v) = writing (goOn s) (puts n (held v t))
-keepResult s n t dividedByZero = stopBy s byZero
-keepResult s n t overflows = stopBy s notFinite
+keepResult s n t (Calculated.Value v) = writing (goOn s) (Write.Put n (Cell.Holds v t))
+keepResult s n t Calculated.ByZero = stopBy s Stop.ByZero
+keepResult s n t Calculated.NotFinite = stopBy s Stop.NotFinite
 
 abbrev pub runAct : Spot → Act → Cell → Cell → Offer → Effect
-runAct s (var v) x y o = runs (goOn s)
-runAct s (store n v t) x y o = writing (goOn s) (puts n (held v t))
-runAct s (copy n m) x y o = writing (goOn s) (puts m x)
-runAct s (calc f n z) x y o = keepResult s n (cellType x) (calculated f (cellValue x) (cellValue y))
-runAct s (meas z n t) x y o = keepResult s n t (checked (reading o))
-runAct s (timerGet n) x y o = keepResult s n eb (checked (reading o))
-runAct s (sendString t) x y o = saying (goOn s) (text t)
-runAct s (wait z) x y o = saying (goOn s) (order (orderWait (cellValue x)))
-runAct s (setE z) x y o = saying (goOn s) (order (orderSetE (cellValue x)))
-runAct s (setMode n) x y o = saying (goOn s) (order (orderSetMode n))
-runAct s timerStart x y o = runs (goOn s)
-runAct s cellOn x y o = saying (goOn s) (order orderCellOn)
-runAct s cellOff x y o = saying (goOn s) (order orderCellOff)
-runAct s abortAct x y o = runs (goOn (withPending s))
+runAct s (Act.Var v) x y o = runs (goOn s)
+runAct s (Act.Store n v t) x y o = writing (goOn s) (Write.Put n (Cell.Holds v t))
+runAct s (Act.Copy n m) x y o = writing (goOn s) (Write.Put m x)
+runAct s (Act.Calc f n z) x y o = keepResult s n (cellType x) (calculated f (cellValue x) (cellValue y))
+runAct s (Act.Meas z n t) x y o = keepResult s n t (checked (reading o))
+runAct s (Act.TimerGet n) x y o = keepResult s n eb (checked (reading o))
+runAct s (Act.SendString t) x y o = saying (goOn s) (What.Text t)
+runAct s (Act.Wait z) x y o = saying (goOn s) (What.Order (Order.Wait (cellValue x)))
+runAct s (Act.SetE z) x y o = saying (goOn s) (What.Order (Order.SetE (cellValue x)))
+runAct s (Act.SetMode n) x y o = saying (goOn s) (What.Order (Order.SetMode n))
+runAct s Act.TimerStart x y o = runs (goOn s)
+runAct s Act.CellOn x y o = saying (goOn s) (What.Order Order.CellOn)
+runAct s Act.CellOff x y o = saying (goOn s) (What.Order Order.CellOff)
+runAct s Act.Abort x y o = runs (goOn (withPending s))
 
 abbrev pub runPack : Spot → Pack → Cell → Effect
-runPack s pckStart x = saying (goOn (withPacked s true)) started
-runPack s (pckAdd n) x = saying (goOn s) (part (cellValue x) (cellType x))
-runPack s pckEnd x = saying (goOn (withPacked s false)) ends
+runPack s Pack.Start x = saying (goOn (withPacked s true)) What.Start
+runPack s (Pack.Add n) x = saying (goOn s) (What.Part (cellValue x) (cellType x))
+runPack s Pack.End x = saying (goOn (withPacked s false)) What.End
+
+-- ---- src/marks.rt: opening and closing marks
 
 abbrev pub enterLoop : Spot → LoopSort → Write → Write → Effect
 enterLoop s k p q =
-    cond (isInside s) (acting (goOn s) noThing noThing p q) (acting (goOn (push s)) (entered k) noThing p q)
+    cond (isInside s) (acting (goOn s) What.Nothing What.Nothing p q)
+    (acting (goOn (push s)) (What.Enter k) What.Nothing p q)
 
 abbrev pub leaveLoop : Spot → LoopSort → ℕ → Effect
 leaveLoop s k i =
-    cond (isInside s) (saying (leaveTo s (below (s .depth)) i (measures k)) (left k))
-    (acting (leaveTo s (s .depth) i (measures k)) (entered k) (left k) noWrite noWrite)
+    cond (isInside s) (saying (leaveTo s (below (s .depth)) i (measures k)) (What.Leave k))
+    (acting (leaveTo s (s .depth) i (measures k)) (What.Enter k) (What.Leave k) Write.Nothing Write.Nothing)
 
 abbrev pub runLoop : Spot → Bool → ℕ → Effect
-runLoop s b i = cond b (enterLoop s aLoop noWrite noWrite) (leaveLoop s aLoop i)
+runLoop s b i = cond b (enterLoop s LoopSort.Loop Write.Nothing Write.Nothing) (leaveLoop s LoopSort.Loop i)
 
 abbrev pub runPoint : Spot → Sweep → Point → Effect
-runPoint s w p = cond (finite (real (p .potential)) && finite (real (p .current)))
-    (enterLoop s aSweep (puts (w .potential) (held (real (p .potential)) da))
-    (puts (w .current) (held (real (p .current)) ba)))
-    (stopBy s notFinite)
+runPoint s w p =
+    cond (finite (Value.Real (p .potential)) && finite (Value.Real (p .current)))
+    (enterLoop s LoopSort.Sweep (Write.Put (w .potential) (Cell.Holds (Value.Real (p .potential)) da))
+    (Write.Put (w .current) (Cell.Holds (Value.Real (p .current)) ba)))
+    (stopBy s Stop.NotFinite)
 
 abbrev pub runSweep : Spot → Sweep → ℕ → Offer → Effect
-runSweep s w i nothing = leaveLoop s aSweep i
-runSweep s w i (oneFloat x) = leaveLoop s aSweep i
-runSweep s w i (onePoint p) = runPoint s w p
-runSweep s w i done = leaveLoop s aSweep i
+runSweep s w i Offer.Nothing = leaveLoop s LoopSort.Sweep i
+runSweep s w i (Offer.Float x) = leaveLoop s LoopSort.Sweep i
+runSweep s w i (Offer.Point p) = runPoint s w p
+runSweep s w i Offer.Done = leaveLoop s LoopSort.Sweep i
 
 abbrev pub runChosen : Spot → Chosen → Effect
-runChosen s (into i) = runs (goTo (push s) i)
-runChosen s (beyond i) = runs (goTo s i)
-runChosen s (bad f) = faultBy s f
+runChosen s (Chosen.Into i) = runs (goTo (push s) i)
+runChosen s (Chosen.Beyond i) = runs (goTo s i)
+runChosen s (Chosen.Bad f) = faultBy s f
 
 abbrev pub runHead : Spot → Head → Cells → Chosen → ℕ → Offer → Effect
-runHead s (if' q) k c i o = runChosen s c
-runHead s (loop q) k c i o = runLoop s (holds q k) i
-runHead s (sweep w) k c i o = runSweep s w i o
+runHead s (Head.If q) k c i o = runChosen s c
+runHead s (Head.Loop q) k c i o = runLoop s (holds q k) i
+runHead s (Head.Sweep w) k c i o = runSweep s w i o
+
+abbrev pub leaveIf : Spot → ℕ → Effect
+leaveIf s i = runs (leaveTo s (below (s .depth)) i false)
 
 abbrev pub runEndloop : Spot → Bool → Effect
 runEndloop s b =
-    cond (b && (s .pending || s .skip)) (saying (leaveTo s (below (s .depth)) (after (s .at)) true) (left aSweep))
+    cond (b && (s .pending || s .skip))
+    (saying (leaveTo s (below (s .depth)) (after (s .at)) true) (What.Leave LoopSort.Sweep))
     (runs (goTo s (topOf s)))
 
 abbrev pub runClose : Spot → Close → Bool → Effect
-runClose s endif b = runs (leaveTo s (below (s .depth)) (after (s .at)) false)
-runClose s endloop b = runEndloop s b
+runClose s Close.EndIf b = leaveIf s (after (s .at))
+runClose s Close.EndLoop b = runEndloop s b
 
 abbrev pub loopSort : Bool → LoopSort
-loopSort b = cond b aSweep aLoop
+loopSort b = cond b LoopSort.Sweep LoopSort.Loop
+
+abbrev pub runBreak : Spot → Around → Effect
+runBreak s w = saying (leaveTo s (w .outside) (w .close) (w .sweep)) (What.Leave (loopSort (w .sweep)))
+
+-- ---- src/step.rt: one step
 
 abbrev pub runItem : Spot → Item → Cells → Chosen → Around → Offer → Effect
-runItem s (act a) k c w o = runAct s a (k .a) (k .b) o
-runItem s (pack p) k c w o = runPack s p (k .a)
-runItem s (opens h) k c w o = runHead s h k c (w .close) o
-runItem s (branch b) k c w o = runs (leaveTo s (below (s .depth)) (w .close) false)
-runItem s (closes e) k c w o = runClose s e (w .sweep)
-runItem s breakloop k c w o = saying (leaveTo s (w .outside) (w .close) (w .sweep)) (left (loopSort (w .sweep)))
-runItem s tag k c w o = runs (goOn s)
-
--- ---- one step
+runItem s (Item.Act a) k c w o = runAct s a (k .a) (k .b) o
+runItem s (Item.Pack p) k c w o = runPack s p (k .a)
+runItem s (Item.Open h) k c w o = runHead s h k c (w .close) o
+runItem s (Item.Branch b) k c w o = leaveIf s (w .close)
+runItem s (Item.Close e) k c w o = runClose s e (w .sweep)
+runItem s Item.Break k c w o = runBreak s w
+runItem s Item.Tag k c w o = runs (goOn s)
 
 -- the spot before the step is kept by a refusal; what the control made of it by a wait
 abbrev pub served : Spot → Spot → rules.Meets → Effect → Effect
 served before s rules.ready e = e
-served before s rules.short e = still s live waiting
-served before s rules.amiss e = still before live (refused readingRefusal)
+served before s rules.short e = still s Status.Live Answer.Waiting
+served before s rules.amiss e = still before Status.Live (Answer.Refused Refusal.Reading)
 
 abbrev pub unless : Trouble → Spot → Effect → Effect
-unless sound s e = e
-unless (because f) s e = faultBy s f
+unless Trouble.None s e = e
+unless (Trouble.Fault f) s e = faultBy s f
+
+abbrev pub troubleOf : Spot → Looked → Trouble
+troubleOf s k = orElse (faultOf s (k .item) (k .cells) (k .around .stray)) (chosenFault (k .chosen))
+
+abbrev pub soundItem : Spot → Spot → Looked → Offer → Effect
+soundItem before s k o =
+    served before s (rules.meets (rules.wantedBy (k .item)) o)
+    (runItem s (k .item) (k .cells) (k .chosen) (k .around) o)
 
 abbrev pub atItem : Spot → Spot → Looked → Offer → Effect
-atItem before s k o =
-    unless (orElse (faultOf s (k .item) (k .cells) (k .around .stray)) (chosenFault (k .chosen))) s
-    (served before s (rules.meets (rules.wantedBy (k .item)) o)
-    (runItem s (k .item) (k .cells) (k .chosen) (k .around) o))
+atItem before s k o = unless (troubleOf s k) s (soundItem before s k o)
 
 abbrev pub leaveAll : Spot → Spot → Status → Answer → Offer → Effect
 leaveAll before s t a o = served before s (rules.meets rules.wantsNothing o) (leaving s t a)
 
 abbrev pub finish : Spot → Spot → Offer → Effect
-finish before s o = leaveAll before s finishedRun finished o
+finish before s o = leaveAll before s Status.Finished Answer.Finished o
 
 abbrev pub atEnd : Spot → Spot → Offer → Effect
 atEnd before s o =
-    cond (eqb (s .depth) 0) (cond (s .packed) (faultBy s packageFault) (finish before s o)) (faultBy s boxFault)
+    cond (eqb (s .depth) 0) (cond (s .packed) (faultBy s Fault.Package) (finish before s o)) (faultBy s Fault.Box)
 
 abbrev pub abort : Spot → Spot → ℕ → ℕ → Offer → Effect
 abort before s t n o =
-    cond (ltb t n && leb (s .at) t) (leaveAll before (clear s (after t)) live running o)
+    cond (ltb t n && leb (s .at) t) (leaveAll before (clear s (after t)) Status.Live Answer.Running o)
     (finish before (clear s (s .at)) o)
 
 abbrev pub abortDue : Spot → Bool → Bool
@@ -533,11 +587,20 @@ moved before s k o =
 abbrev pub live′ : Spot → Looked → Control → Offer → Effect
 live′ before k c o = moved before (takeControl before c (k .around .sweeping)) k o
 
+abbrev pub isLive : Status → Bool
+isLive Status.Live = true
+isLive Status.Finished = false
+isLive (Status.Stopped q) = false
+isLive (Status.Fault f) = false
+
+abbrev pub answerOf : Status → Answer
+answerOf Status.Live = Answer.Running
+answerOf Status.Finished = Answer.Finished
+answerOf (Status.Stopped q) = Answer.Stopped q
+answerOf (Status.Fault f) = Answer.Fault f
+
 abbrev pub again : Spot → Status → Looked → Control → Offer → Effect
-again s live k c o = live′ s k c o
-again s finishedRun k c o = still s finishedRun finished
-again s (stoppedRun q) k c o = still s (stoppedRun q) (stopped q)
-again s (faultRun f) k c o = still s (faultRun f) (fault f)
+again s t k c o = cond (isLive t) (live′ s k c o) (still s t (answerOf t))
 
 abbrev pub effectOf : Bool → Spot → Status → Looked → Control → Offer → Effect
-effectOf b s t k c o = cond b (again s t k c o) (still s t (refused shapeRefusal))
+effectOf b s t k c o = cond b (again s t k c o) (still s t (Answer.Refused Refusal.Shape))
