@@ -1,8 +1,8 @@
 use mathlib.Core.Path.{refl}
 use Rattle.machine.proofs.Surroundings.{open-around}
 use borrow.Author.Needs.{needs}
-use Rattle.machine.proofs.around_open.Statement.{statement}
-use Rattle.machine.proofs.around_open.Tie as tie
+use Rattle.machine.proofs.around.around_open.Statement.{statement}
+use Rattle.machine.proofs.around.around_open.Tie as tie
 
 close-of-requires : tie.Need-close-of-requires
 close-of-requires c κs = search needs

@@ -3,8 +3,8 @@ use native.Mathlib.Omega.{arith}
 use Rattle.machine.proofs.Lookups.{least-most}
 use Rattle.machine.proofs.Surroundings.{mark-astray, mark-around, top-box, no-box}
 use borrow.Author.Needs.{needs}
-use Rattle.machine.proofs.around_mark.Statement.{statement}
-use Rattle.machine.proofs.around_mark.Tie as tie
+use Rattle.machine.proofs.around.around_mark.Statement.{statement}
+use Rattle.machine.proofs.around.around_mark.Tie as tie
 
 at-most-requires : tie.Need-at-most-requires
 at-most-requires c κs = search needs

@@ -2,8 +2,8 @@ use mathlib.Core.Path.{_∙_}
 use borrow.Author.Needs.{needs}
 use Rattle.table.specs.Item.{isLoop, isSweep}
 use Rattle.mates.proofs.Placed.{opens-seen}
-use Rattle.machine.proofs.leave_mark.Statement.{statement}
-use Rattle.machine.proofs.leave_mark.Tie as tie
+use Rattle.machine.proofs.around.leave_mark.Statement.{statement}
+use Rattle.machine.proofs.around.leave_mark.Tie as tie
 
 sweep-at-requires : tie.Need-sweep-at-requires
 sweep-at-requires c κs = search needs

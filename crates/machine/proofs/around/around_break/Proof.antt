@@ -3,8 +3,8 @@ use native.Mathlib.Omega.{arith}
 use Rattle.state.proofs.Boxes.{tops-top}
 use Rattle.machine.proofs.Surroundings.{break-astray, break-around}
 use borrow.Author.Needs.{needs}
-use Rattle.machine.proofs.around_break.Statement.{statement}
-use Rattle.machine.proofs.around_break.Tie as tie
+use Rattle.machine.proofs.around.around_break.Statement.{statement}
+use Rattle.machine.proofs.around.around_break.Tie as tie
 
 loop-depth-requires : tie.Need-loop-depth-requires
 loop-depth-requires c κs = search needs
