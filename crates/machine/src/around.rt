@@ -1,20 +1,13 @@
 // What the marks say where a run stands.
 ghost use mathlib.Core.Path.{_≡_};
-ghost use mathlib.Core.Bool.{true, false, _||_};
+ghost use mathlib.Core.Bool.{false};
 ghost use mathlib.Core.List.{[], _∷_};
-ghost use Prim.Native.Nat.{_≤_, _<_};
-ghost use Rattle.table.specs.declared.Item.{Item as AnItem};
-ghost use Rattle.table.specs.declared.Item.the-variants as AnItem;
-ghost use Rattle.table.specs.declared.Head.{Head as AHead};
-ghost use Rattle.table.specs.Item.{isBranch, isClose, isSweep};
-ghost use Rattle.mates.specs.Mates.{itemAt};
+ghost use Prim.Native.Nat.{_≤_};
+ghost use Rattle.table.specs.Item.{isSweep};
 ghost use Rattle.mates.specs.Code.{Seen};
-ghost use Rattle.state.specs.State.{Vars};
 ghost use Rattle.state.specs.Meaning.{tops};
-ghost use Rattle.effect.specs.Code.{operandsOf};
-ghost use Rattle.machine.specs.Machine as rules;
 ghost use Rattle.machine.specs.Machine.{anyOpen, unwind, leaveOuts};
-ghost use Rattle.machine.specs.Code.{openAt, handed, operandCell, triedBy, triedAt, Surrounds};
+ghost use Rattle.machine.specs.Code.{openAt, handed, AtOpen, AtMark, AtBreak, AtItem, TriedAs};
 use super::pieces;
 use effect::Around;
 use effect::Cells;
@@ -84,7 +77,7 @@ fn around_none(sweeping: bool, stray: bool) -> Around
 }
 
 fn around_open(marks: Marks, sweeping: bool, s: Spot) -> Around
-    ensures { λ r. ⌜ (r .sweeping ≡ sweeping) × Seen (marks .at) (λ xs. (h : AHead) → Surrounds xs s (AnItem.Open h) r) ⌝ }
+    ensures { λ r. ⌜ (r .sweeping ≡ sweeping) × AtOpen (marks .at) s r ⌝ }
 {
     let close = mates::close_of(marks, s.at);
     Around {
@@ -98,7 +91,7 @@ fn around_open(marks: Marks, sweeping: bool, s: Spot) -> Around
 
 // Around a branch or closing mark.
 fn around_mark(marks: Marks, sweeping: bool, s: Spot) -> Around
-    ensures { λ r. ⌜ (r .sweeping ≡ sweeping) × (s .depth ≤ 8 → Seen (marks .at) (λ xs. (x : AnItem) → (isBranch x || isClose x) ≡ true → itemAt xs (s .at) ≡ x → Surrounds xs s x r)) ⌝ }
+    ensures { λ r. ⌜ (r .sweeping ≡ sweeping) × AtMark (marks .at) s r ⌝ }
 {
     let d = pieces::at_most(s.depth, BOXES);
     if d == 0 {
@@ -115,7 +108,7 @@ fn around_mark(marks: Marks, sweeping: bool, s: Spot) -> Around
 }
 
 fn around_break(marks: Marks, sweeping: bool, s: Spot) -> Around
-    ensures { λ r. ⌜ (r .sweeping ≡ sweeping) × (s .depth ≤ 8 → Seen (marks .at) (λ xs. Surrounds xs s AnItem.Break r)) ⌝ }
+    ensures { λ r. ⌜ (r .sweeping ≡ sweeping) × AtBreak (marks .at) s r ⌝ }
 {
     let k = loop_depth(marks, s);
     if k == 0 {
@@ -132,7 +125,7 @@ fn around_break(marks: Marks, sweeping: bool, s: Spot) -> Around
 }
 
 pub(crate) fn around_of(marks: Marks, s: Spot, x: Item) -> Around
-    ensures { λ r. ⌜ (s .depth ≤ 8 → Seen (marks .at) (λ xs. (r .sweeping ≡ anyOpen isSweep xs (openAt s)) × (itemAt xs (s .at) ≡ x → Surrounds xs s x r))) ⌝ }
+    ensures { λ r. ⌜ AtItem (marks .at) s x r ⌝ }
 {
     let sweeping = any_sweep(marks, s);
     match x {
@@ -148,7 +141,7 @@ pub(crate) fn around_of(marks: Marks, s: Spot, x: Item) -> Around
 
 // The item x at j, where it belongs to the box that opens at p.
 pub(crate) fn try_at(marks: Marks, x: Item, k: Cells, p: usize, j: usize) -> Tried
-    ensures { λ r. ⌜ Seen (marks .at) (λ xs. (vs : Vars) (o : rules.Chosen) → itemAt xs j ≡ x → j < 128 → operandCell vs (operandsOf x .a) ≡ k .a → operandCell vs (operandsOf x .b) ≡ k .b → triedBy r o ≡ triedAt xs vs p j o) ⌝ }
+    ensures { λ r. ⌜ TriedAs (marks .at) x k p j r ⌝ }
 {
     if mates::belongs_to(marks, j, p) {
         return effect::try_mate(x, k, j);

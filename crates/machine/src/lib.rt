@@ -1,5 +1,5 @@
-// The machine: what a step needs of table and names is looked up here, the crate `effect` says what the step makes of it,
-// and the names are written here.
+// The machine: what a step needs of table and names is looked up here, the crate `effect` says what the step makes of
+// it, and the names are written here.
 ghost use mathlib.Core.Path.{_≡_};
 ghost use lib.ListN.{length, take};
 ghost use Rattle.machine.specs.Exact.{Exact};
