@@ -16,3 +16,4 @@ pub mod Turns
 pub mod Few
 pub mod Resting
 pub mod Parts
+pub mod Walks

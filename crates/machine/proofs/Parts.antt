@@ -5,15 +5,16 @@ use mathlib.Core.Bool.{Bool, true, false, _&&_}
 use mathlib.Core.List.{List, [], _∷_, _++_, append-assoc}
 use Rattle.table.specs.declared.Script.{Script}
 use Rattle.table.specs.Shape.{itemsOf}
+use Rattle.state.specs.declared.Control.{Control}
+use Rattle.state.specs.declared.Offer.{Offer}
+use Rattle.state.specs.declared.State.{State}
 use Rattle.state.specs.State as rules
 use Rattle.state.specs.State.{Run, Step, stays}
 use Rattle.state.specs.Meaning.{runOf, Neat}
-use Rattle.machine.specs.Words.{Control, Offer, State}
 use Rattle.machine.specs.Machine.{step}
-use Rattle.machine.specs.Course.{Course, andThen, runFrom, allStay, restingAll, courseOf, Comes}
-use Rattle.machine.specs.Parts.{followed, InParts, Chains, AllChain}
-use Rattle.machine.specs.Parts.{Call, Called, stepsOfAll, courseOfAll, lastOfAll}
-use Rattle.machine.proofs.Shapes.{and-l, and-r}
+use Rattle.machine.specs.Course.{Course, andThen, runFrom, allStay, Comes}
+use Rattle.machine.specs.Parts.{followed, InParts, Chains, AllChain, courseOfAll}
+use Rattle.machine.proofs.Shapes.{and-l, and-r, and-assoc}
 use Rattle.machine.proofs.Answers.{never}
 use Rattle.machine.proofs.Resting.{Alike, alike-neat, all-alike, comes-by}
 
@@ -37,10 +38,6 @@ stay-append : (k : rules.Status) (l r : List rules.Answer) → allStay k (l ++ r
 stay-append k [] r = refl
 stay-append k (a ∷ l) r =
     ap (λ (b : Bool). stays k a && b) (stay-append k l r) ∙ sym (and-assoc (stays k a) (allStay k l) (allStay k r))
-  where
-    and-assoc : (a b c : Bool) → ((a && b) && c) ≡ (a && (b && c))
-    and-assoc true b c = refl
-    and-assoc false b c = refl
 
 module _ {size : ℕ} {t : Script} {m n k : State} {ps qs : List (Control × Offer)} {c d : Course}
     (e : Comes size t m ps c n) (f : Comes size t n qs d k) where

@@ -1,16 +1,20 @@
 -- What steps that take no item leave of a state: all of it, with the controls of the waits.
 use Prim.Native.Nat.{ℕ}
 use mathlib.Core.Path.{_≡_, refl, sym, ap, subst, _∙_}
-use mathlib.Core.Bool.{Bool, true, false, _&&_}
+use mathlib.Core.Bool.{true, false}
 use mathlib.Core.List.{List, [], _∷_}
 use Rattle.table.specs.declared.Item.{Item}
 use Rattle.table.specs.declared.Script.{Script}
 use Rattle.table.specs.Shape.{itemsOf}
+use Rattle.state.specs.declared.Control.{Control}
+use Rattle.state.specs.declared.Control.the-variants as Control
+use Rattle.state.specs.declared.Offer.{Offer}
+use Rattle.state.specs.declared.State.{State}
+use Rattle.state.specs.declared.Stepped.{Stepped}
 use Rattle.state.specs.State as rules
 use Rattle.state.specs.State.{Run, Step, stays}
 use Rattle.state.specs.Meaning.{runOf, answerOf, meaning, Neat}
 use Rattle.state.proofs.Tight.{same-run}
-use Rattle.machine.specs.Words.{Control, noControl, Z, Y, Offer, State, Stepped}
 use Rattle.machine.specs.Machine.{told, step}
 use Rattle.machine.specs.Exact.{Exact, toldTo, resting}
 use Rattle.machine.specs.Code.{Settled}
@@ -21,9 +25,9 @@ use Rattle.machine.proofs.Keeping.{leftOf, step-rests}
 -- ---- one step
 
 told-run : (xs : List Item) (m : State) (c : Control) → runOf (toldTo xs m c) ≡ told xs (runOf m) c
-told-run xs m noControl = refl
-told-run xs m Z = refl
-told-run xs m Y = refl
+told-run xs m Control.None = refl
+told-run xs m Control.Z = refl
+told-run xs m Control.Y = refl
 
 resting-run : (xs : List Item) (m : State) (c : Control) (a : rules.Answer)
     → runOf (resting xs m c a) ≡ leftOf (runOf m) (told xs (runOf m) c) a

@@ -1,33 +1,28 @@
 -- What the marks say around the item at which a run stands.
-use Prim.Native.Nat.{ℕ, zero, suc, _-_, _≤_}
+use Prim.Native.Nat.{ℕ, _-_, _≤_}
 use mathlib.Core.Path.{_≡_, refl, sym, ap, _∙_}
-use mathlib.Core.Bool.{Bool, true, false, not, _||_}
+use mathlib.Core.Bool.{Bool, true, false, not, _||_, false≢true}
 use mathlib.Core.List.{List, [], _∷_}
-use native.Mathlib.Omega.{arith}
 use lib.Dec.{eqb}
 use lib.ListN.{getD}
 use borrow.Author.Tests.{le-leb}
 use Rattle.table.specs.declared.Act.{Act}
-use Rattle.table.specs.declared.Pack.{Pack}
 use Rattle.table.specs.declared.Head.{Head}
 use Rattle.table.specs.declared.Item.{Item}
-use Rattle.table.specs.declared.Item.the-variants.{Act as act, Pack as pack, Open as opens, Branch as branch}
-use Rattle.table.specs.declared.Item.the-variants.{Close as closes, Break as breakloop, Tag as tag}
+use Rattle.table.specs.declared.Item.the-variants as Item
+use Rattle.table.specs.declared.Pack.{Pack}
 use Rattle.table.specs.Item.{isBranch, isClose, isBreak, isSweep}
 use Rattle.mates.specs.declared.Mark.{Mark}
-use Rattle.mates.specs.Mates.{itemAt, boxesAt, past, closeOf}
+use Rattle.mates.specs.Mates.{itemAt, past, closeOf}
 use Rattle.mates.specs.Code.{Marked, opensAt, belongsIn, closeIn}
 use Rattle.mates.proofs.Placed.{close-seen, opens-seen, belongs-seen}
 use Rattle.state.specs.Meaning.{tops}
 use Rattle.state.proofs.Boxes.{tops-top}
-use Rattle.effect.specs.declared.Spot.{Spot}
 use Rattle.effect.specs.declared.Around.{Around}
-use Rattle.machine.specs.Machine.{unwind, astray, isNone, isEmpty, strays}
-use Rattle.machine.specs.Code.{openAt, about, closeTop, sweepTop, Surrounds, liveRun, least}
+use Rattle.effect.specs.declared.Spot.{Spot}
+use Rattle.machine.specs.Machine.{unwind}
+use Rattle.machine.specs.Code.{openAt, aboutOf, Surrounds, liveRun, least}
 use Rattle.machine.proofs.Placed.{fault-open, fault-mark, none-past}
-
-no : {X : Type 0} → false ≡ true → X
-no e = let z : _≡_ {A = ℕ} 0 1 = cc in absurd (omega arith)
 
 pub least-same : (n k : ℕ) → n ≤ k → least n k ≡ n
 least-same n k h = rw (le-leb n k h)
@@ -36,99 +31,88 @@ least-same n k h = rw (le-leb n k h)
 abbrev pub alone : Bool → Bool → Around
 alone b c = record { sweeping = b; stray = c; close = 0; sweep = false; outside = 0 }
 
-not-break : {X : Type 0} (x : Item) → isBreak x ≡ false → x ≡ breakloop → X
-not-break x e f = no (sym e ∙ ap isBreak f)
+not-break : {X : Type 0} (x : Item) → isBreak x ≡ false → x ≡ Item.Break → X
+not-break x e f = absurd (false≢true (sym e ∙ ap isBreak f))
+
+-- a branch or closing mark is no breakloop, and it is about the innermost box
+mark-break : (x : Item) → (isBranch x || isClose x) ≡ true → isBreak x ≡ false
+mark-break (Item.Act a) e = refl
+mark-break (Item.Pack p) e = refl
+mark-break (Item.Open h) e = refl
+mark-break (Item.Branch b) e = refl
+mark-break (Item.Close c) e = refl
+mark-break Item.Break e = sym e
+mark-break Item.Tag e = refl
+
+mark-about : (xs : List Item) (i : ℕ) (ps : List ℕ) (x : Item) → (isBranch x || isClose x) ≡ true
+    → aboutOf xs i ps x ≡ ps
+mark-about xs i ps (Item.Act a) e = absurd (false≢true e)
+mark-about xs i ps (Item.Pack p) e = absurd (false≢true e)
+mark-about xs i ps (Item.Open h) e = absurd (false≢true e)
+mark-about xs i ps (Item.Branch b) e = refl
+mark-about xs i ps (Item.Close c) e = refl
+mark-about xs i ps Item.Break e = absurd (false≢true e)
+mark-about xs i ps Item.Tag e = absurd (false≢true e)
+
+-- what the marks say of the box that opens at p: past its closing mark, and whether it is a measuring loop
+pub record Told (ms : List Mark) (p c : ℕ) (sw : Bool) : Type 0 where
+  pub close : c ≡ past (closeIn ms p)
+  pub sweep : sw ≡ opensAt isSweep ms p
 
 module _ (xs : List Item) (s : Spot) (b : Bool) where
-  pub around-act : (a : Act) → Surrounds xs s (act a) (alone b false)
-  around-act a = record { stray = refl; close = refl; sweep = λ e. refl; outside = λ e. not-break (act a) refl e }
+  pub around-act : (a : Act) → Surrounds xs s (Item.Act a) (alone b false)
+  around-act a =
+      record { stray = refl; close = refl; sweep = λ e. refl; outside = λ e. not-break (Item.Act a) refl e }
 
-  pub around-pack : (p : Pack) → Surrounds xs s (pack p) (alone b false)
-  around-pack p = record { stray = refl; close = refl; sweep = λ e. refl; outside = λ e. not-break (pack p) refl e }
+  pub around-pack : (p : Pack) → Surrounds xs s (Item.Pack p) (alone b false)
+  around-pack p =
+      record { stray = refl; close = refl; sweep = λ e. refl; outside = λ e. not-break (Item.Pack p) refl e }
 
-  pub around-tag : Surrounds xs s tag (alone b false)
-  around-tag = record { stray = refl; close = refl; sweep = λ e. refl; outside = λ e. not-break tag refl e }
+  pub around-tag : Surrounds xs s Item.Tag (alone b false)
+  around-tag = record { stray = refl; close = refl; sweep = λ e. refl; outside = λ e. not-break Item.Tag refl e }
 
   module _ (ms : List Mark) (k : Marked xs ms) where
     pub open-around : (h : Head) (c : ℕ) → c ≡ past (closeIn ms (s .at))
-        → Surrounds xs s (opens h) (record { sweeping = b; stray = eqb c 0; close = c; sweep = false; outside = 0 })
+        → Surrounds xs s (Item.Open h) (record { sweeping = b; stray = eqb c 0; close = c; sweep = false; outside = 0 })
     open-around h c e = record {
       stray =
           rw (e, close-seen xs ms k (s .at), none-past (closeOf xs (s .at)))
-          (sym (fault-open xs (liveRun [] s) (opens h) refl));
+          (sym (fault-open xs (liveRun [] s) (Item.Open h) refl));
       close = e ∙ close-seen xs ms k (s .at);
-      sweep = λ f. no (sym f);
-      outside = λ f. not-break (opens h) refl f;
+      sweep = λ f. absurd (false≢true (sym f));
+      outside = λ f. not-break (Item.Open h) refl f;
     }
 
     -- a branch or closing mark, with no box open, or with p the innermost
-    pub mark-astray : (x : Item) → (isBranch x || isClose x) ≡ true → s .depth ≡ 0 → Surrounds xs s x (alone b true)
-    mark-astray (act a) e d = no e
-    mark-astray (pack p) e d = no e
-    mark-astray (opens h) e d = no e
-    mark-astray (branch c) e d = record {
-      stray = sym (fault-mark xs (liveRun [] s) (branch c) refl ∙ rw d);
-      close = rw d;
-      sweep = λ f. rw d;
-      outside = λ f. not-break (branch c) refl f;
-    }
-    mark-astray (closes c) e d = record {
-      stray = sym (fault-mark xs (liveRun [] s) (closes c) refl ∙ rw d);
-      close = rw d;
-      sweep = λ f. rw d;
-      outside = λ f. not-break (closes c) refl f;
-    }
-    mark-astray breakloop e d = no e
-    mark-astray tag e d = no e
+    module _ (x : Item) (q : (isBranch x || isClose x) ≡ true) where
+      pub mark-astray : s .depth ≡ 0 → Surrounds xs s x (alone b true)
+      mark-astray d = record {
+        stray = sym (fault-mark xs (liveRun [] s) x q ∙ rw d);
+        close = rw (mark-about xs (s .at) (openAt s) x q, d);
+        sweep = λ f. rw (mark-about xs (s .at) (openAt s) x q, d);
+        outside = λ f. not-break x (mark-break x q) f;
+      }
 
-    module _ (p c : ℕ) (st sw : Bool) (x : Item) (top : openAt s ≡ p ∷ tops (s .boxes) (s .depth - 1))
-        (here : itemAt xs (s .at) ≡ x)
-        (e : st ≡ belongsIn ms (s .at) p) (f : c ≡ past (closeIn ms p)) (g : sw ≡ opensAt isSweep ms p) where
-      abbrev seen : Around
-      seen = record { sweeping = b; stray = not st; close = c; sweep = sw; outside = 0 }
-
-      stray-is : not st ≡ strays x (openAt s) (boxesAt xs (s .at))
-      stray-is = rw (top, e, belongs-seen xs ms k p (s .at), here)
-
-      close-is : c ≡ closeTop xs (openAt s)
-      close-is = rw top (f ∙ close-seen xs ms k p)
-
-      sweep-is : sw ≡ sweepTop xs (openAt s)
-      sweep-is = rw top (g ∙ opens-seen xs ms k p isSweep)
-
-    pub mark-around : (p c : ℕ) (st sw : Bool) (x : Item) → (isBranch x || isClose x) ≡ true
-        → openAt s ≡ p ∷ tops (s .boxes) (s .depth - 1)
-        → itemAt xs (s .at) ≡ x → st ≡ belongsIn ms (s .at) p → c ≡ past (closeIn ms p) → sw ≡ opensAt isSweep ms p
-        → Surrounds xs s x (record { sweeping = b; stray = not st; close = c; sweep = sw; outside = 0 })
-    mark-around p c st sw (act a) q top here e f g = no q
-    mark-around p c st sw (pack a) q top here e f g = no q
-    mark-around p c st sw (opens h) q top here e f g = no q
-    mark-around p c st sw (branch a) q top here e f g = record {
-      stray = stray-is p c st sw (branch a) top here e f g ∙ sym (fault-mark xs (liveRun [] s) (branch a) refl);
-      close = close-is p c st sw (branch a) top here e f g;
-      sweep = λ z. sweep-is p c st sw (branch a) top here e f g;
-      outside = λ z. not-break (branch a) refl z;
-    }
-    mark-around p c st sw (closes a) q top here e f g = record {
-      stray = stray-is p c st sw (closes a) top here e f g ∙ sym (fault-mark xs (liveRun [] s) (closes a) refl);
-      close = close-is p c st sw (closes a) top here e f g;
-      sweep = λ z. sweep-is p c st sw (closes a) top here e f g;
-      outside = λ z. not-break (closes a) refl z;
-    }
-    mark-around p c st sw breakloop q top here e f g = no q
-    mark-around p c st sw tag q top here e f g = no q
+      pub mark-around : {p c : ℕ} {st sw : Bool} → openAt s ≡ p ∷ tops (s .boxes) (s .depth - 1)
+          → itemAt xs (s .at) ≡ x → st ≡ belongsIn ms (s .at) p → Told ms p c sw
+          → Surrounds xs s x (record { sweeping = b; stray = not st; close = c; sweep = sw; outside = 0 })
+      mark-around {p} top here e f = record {
+        stray = rw (fault-mark xs (liveRun [] s) x q, top, e, belongs-seen xs ms k p (s .at), here);
+        close = rw (mark-about xs (s .at) (openAt s) x q, top) (f .close ∙ close-seen xs ms k p);
+        sweep = λ z. rw (mark-about xs (s .at) (openAt s) x q, top) (f .sweep ∙ opens-seen xs ms k p isSweep);
+        outside = λ z. not-break x (mark-break x q) z;
+      }
 
     -- a breakloop, with no loop open, or with that at p the innermost
-    pub break-astray : unwind xs (openAt s) ≡ [] → Surrounds xs s breakloop (alone b true)
+    pub break-astray : unwind xs (openAt s) ≡ [] → Surrounds xs s Item.Break (alone b true)
     break-astray e = record { stray = rw e; close = rw e; sweep = λ f. rw e; outside = λ f. rw e }
 
-    pub break-around : (p c d : ℕ) (sw : Bool) → unwind xs (openAt s) ≡ p ∷ tops (s .boxes) d → c ≡ past (closeIn ms p)
-        → sw ≡ opensAt isSweep ms p
-        → Surrounds xs s breakloop (record { sweeping = b; stray = false; close = c; sweep = sw; outside = d })
-    break-around p c d sw e f g = record {
+    pub break-around : {p c d : ℕ} {sw : Bool} → unwind xs (openAt s) ≡ p ∷ tops (s .boxes) d → Told ms p c sw
+        → Surrounds xs s Item.Break (record { sweeping = b; stray = false; close = c; sweep = sw; outside = d })
+    break-around {p} e f = record {
       stray = rw e;
-      close = rw e (f ∙ close-seen xs ms k p);
-      sweep = λ z. rw e (g ∙ opens-seen xs ms k p isSweep);
+      close = rw e (f .close ∙ close-seen xs ms k p);
+      sweep = λ z. rw e (f .sweep ∙ opens-seen xs ms k p isSweep);
       outside = λ z. rw e;
     }
 

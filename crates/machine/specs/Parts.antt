@@ -4,9 +4,11 @@ use Prim.Native.Nat.{ℕ}
 use mathlib.Core.Path.{_≡_}
 use mathlib.Core.List.{List, [], _∷_, _++_}
 use Rattle.table.specs.declared.Script.{Script}
+use Rattle.state.specs.declared.Control.{Control}
+use Rattle.state.specs.declared.Offer.{Offer}
+use Rattle.state.specs.declared.State.{State}
 use Rattle.state.specs.State.{Run}
 use Rattle.state.specs.Meaning.{runOf}
-use Rattle.machine.specs.Words.{Control, Offer, State}
 use Rattle.machine.specs.Course.{Ran, Course, runFrom, courseOf, Comes, ExactRun}
 
 -- one course, and the one that follows it

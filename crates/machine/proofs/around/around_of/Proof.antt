@@ -1,8 +1,8 @@
 use mathlib.Core.Path.{_∙_}
-use Rattle.machine.proofs.Surroundings.{around-act, around-pack, around-tag}
 use borrow.Author.Needs.{needs}
-use Rattle.machine.proofs.around_of.Statement.{statement}
-use Rattle.machine.proofs.around_of.Tie as tie
+use Rattle.machine.proofs.Surroundings.{around-act, around-pack, around-tag}
+use Rattle.machine.proofs.around.around_of.Statement.{statement}
+use Rattle.machine.proofs.around.around_of.Tie as tie
 
 any-sweep-requires : tie.Need-any-sweep-requires
 any-sweep-requires c κs = search needs

@@ -1,7 +1,7 @@
 use Rattle.machine.proofs.Answers.{never}
 use borrow.Author.Needs.{needs}
-use Rattle.machine.proofs.state_after.Statement.{statement}
-use Rattle.machine.proofs.state_after.Tie as tie
+use Rattle.machine.proofs.pieces.state_after.Statement.{statement}
+use Rattle.machine.proofs.pieces.state_after.Tie as tie
 
 with-flags-requires : tie.Need-with-flags-requires
 with-flags-requires c κs = search needs
