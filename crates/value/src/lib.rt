@@ -1,6 +1,7 @@
 // Values: whole numbers and floats, literals, arithmetic and comparison.
 ghost use mathlib.Core.Path.{_≡_};
 ghost use Prim.Native.Nat.{_+_, _≤_, _<_, _%_, _^_};
+ghost use lib.Ieee.{binary64, toBits};
 ghost use lib.IntN.{natAbs, pos, negℤ, _+ℤ_, _-ℤ_, _*ℤ_};
 ghost use lib.ListN.{length, drop};
 ghost use lib.Signed.{quotZ, remZ, mag};
@@ -136,29 +137,18 @@ fn finished(s: &[u8], i: usize, k: usize, v: u64, neg: bool) -> Literal
     Literal::Bad(i)
 }
 
+// The digits from `at` on, and what follows them.
 fn digits(s: &[u8], at: usize, neg: bool) -> Literal
     requires { ⌜ at ≤ length (now s) ⌝ }
-    ensures { λ r. ⌜ r ≡ readDigits neg 0 0 at (drop at (now (s .entry))) ⌝ }
+    ensures { λ r. ⌜ r ≡ readDigits neg at (drop at (now (s .entry))) ⌝ }
 {
-    let mut v: u64 = 0;
-    let mut k: usize = 0;
-    let mut i = at;
-    while i < s.len() {
-        let c = s[i];
-        if c < b'0' {
-            return finished(s, i, k, v, neg);
-        }
-        if b'9' < c {
-            return finished(s, i, k, v, neg);
-        }
-        if MOST_DIGITS <= k {
-            return Literal::Bad(i);
-        }
-        v = v * 10 + (c - b'0') as u64;
-        k += 1;
-        i += 1;
+    let read = text::decimal_at(s, at);
+    let next = read.next;
+    let k = next - at;
+    if MOST_DIGITS < k {
+        return Literal::Bad(at + MOST_DIGITS);
     }
-    finished(s, i, k, v, neg)
+    finished(s, next, k, read.number, neg)
 }
 
 // The whole word as a literal.
@@ -221,7 +211,7 @@ fn narrowed(x: i64) -> i32
 }
 
 // The two's-complement word of a number.
-fn word_of(x: i32) -> u32
+pub fn word_of(x: i32) -> u32
     ensures { λ r. ⌜ r ≡ rest x (2 ^ 32) ⌝ }
 {
     if x < 0 {
@@ -299,6 +289,16 @@ fn compare_wholes(by: Comparison, a: i32, b: i32) -> bool
 }
 
 // ---- floats
+
+// The pattern of every NaN here.
+const NAN: u64 = 9221120237041090560;
+
+// The 64 bits of a float.
+pub fn bits_of(x: f64) -> u64
+    ensures { λ r. ⌜ r ≡ toBits binary64 x ⌝ }
+{
+    if x != x { NAN } else { f64::to_bits(x) }
+}
 
 // A float less itself is zero exactly where it is finite.
 fn finite_float(x: f64) -> bool

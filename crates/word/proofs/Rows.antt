@@ -10,7 +10,9 @@ use lib.Dec.{ltb, eqb}
 use lib.ListN.{length, take, drop, getD, set, replicate, drop-of-length-le, length-set}
 use lib.Seq.{drop-cons, take-all, take-length, length-take-le, set-at, take-suc, append-snoc}
 use Rattle.word.specs.Code.{Held}
-use Rattle.word.specs.Word.{Found, at, nowhere, padded, sameBytes, place}
+use Rattle.word.specs.declared.Found.the-variants as Found
+use Rattle.word.specs.declared.Found.{Found}
+use Rattle.word.specs.Word.{padded, sameBytes, place}
 
 -- ---- comparing two rows of 16 bytes
 
@@ -111,10 +113,10 @@ pub record Seeking (rows : List (List ℕ)) (key : List ℕ) (i : ℕ) : Type 0 
 
 place-next : (rows : List (List ℕ)) (i : ℕ) (key : List ℕ) → i < length rows
     → place i (drop i rows) key
-    ≡ cond (sameBytes (getD rows i []) key) (at i) (place (i + 1) (drop (i + 1) rows) key)
+    ≡ cond (sameBytes (getD rows i []) key) (Found.At i) (place (i + 1) (drop (i + 1) rows) key)
 unfolding place
 place-next rows i key h =
-    let past : ℕ → Found = λ n. cond (sameBytes (getD rows i []) key) (at i) (place (i + 1) (drop n rows) key) in
+    let past : ℕ → Found = λ n. cond (sameBytes (getD rows i []) key) (Found.At i) (place (i + 1) (drop n rows) key) in
     rw (drop-cons rows i [] h) (ap past (sym (add-one i)))
 
 pub passed : {rows : List (List ℕ)} {key : List ℕ} {i : ℕ} → Seeking rows key i → i < length rows
@@ -123,10 +125,10 @@ passed {rows} {key} {i} s h f =
     record { within = omega arith; rest = sym (place-next rows i key h ∙ simp f) ∙ s .rest }
 
 pub found : {rows : List (List ℕ)} {key : List ℕ} {i : ℕ} → Seeking rows key i → i < length rows
-    → sameBytes (getD rows i []) key ≡ true → at i ≡ place 0 rows key
+    → sameBytes (getD rows i []) key ≡ true → Found.At i ≡ place 0 rows key
 found {rows} {key} {i} s h t = sym (place-next rows i key h ∙ simp t) ∙ s .rest
 
 pub not-found : {rows : List (List ℕ)} {key : List ℕ} {i : ℕ} → Seeking rows key i → length rows ≤ i
-    → nowhere ≡ place 0 rows key
+    → Found.Nothing ≡ place 0 rows key
 unfolding place
 not-found {rows} {key} {i} s h = sym (rw (drop-of-length-le rows h) refl) ∙ s .rest

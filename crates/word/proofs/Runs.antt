@@ -9,7 +9,10 @@ use lib.Dec.{eqb}
 use lib.ListN.{length, drop, getD, drop-of-length-le, length-drop}
 use lib.Seq.{drop-cons}
 use borrow.Author.Tests.{eq-eqb, ne-eqb}
-use Rattle.word.specs.Word.{Class, Blank, Solid, Span, inClass, run, wordAt, skipped}
+use Rattle.word.specs.declared.Class.the-variants as Class
+use Rattle.word.specs.declared.Class.{Class}
+use Rattle.word.specs.declared.Span.{Span}
+use Rattle.word.specs.Word.{inClass, run, wordAt, skipped}
 
 run-more : (k : Class) (s : List ℕ) (i : ℕ) → i < length s → inClass k (getD s i 0) ≡ true
     → run k (drop i s) ≡ suc (run k (drop (i + 1) s))
@@ -57,24 +60,24 @@ pub inside : (w : Span) (s : List ℕ) (i : ℕ) → w ≡ wordAt s i → i ≤ 
     → (w .start ≤ w .end) × (w .end ≤ length s)
 unfolding wordAt
 inside w s i e h =
-    let f : ℕ = i + run Blank (drop i s) in
+    let f : ℕ = i + run Class.Blank (drop i s) in
     let es : w .start ≡ f = ap (λ (x : Span). x .start) e in
-    let ee : w .end ≡ f + run Solid (drop f s) = ap (λ (x : Span). x .end) e in
-    let a : run Blank (drop i s) ≤ length s - i = rw (← length-drop i s) (run-le Blank (drop i s)) in
-    let b : run Solid (drop f s) ≤ length s - f = rw (← length-drop f s) (run-le Solid (drop f s)) in
+    let ee : w .end ≡ f + run Class.Solid (drop f s) = ap (λ (x : Span). x .end) e in
+    let a : run Class.Blank (drop i s) ≤ length s - i = rw (← length-drop i s) (run-le Class.Blank (drop i s)) in
+    let b : run Class.Solid (drop f s) ≤ length s - f = rw (← length-drop f s) (run-le Class.Solid (drop f s)) in
     (omega arith, omega arith)
 
 -- ---- lines that are skipped
 
-pub skip-some : (s : List ℕ) (i : ℕ) → i ≡ 0 + run Blank (drop 0 s) → i < length s
+pub skip-some : (s : List ℕ) (i : ℕ) → i ≡ 0 + run Class.Blank (drop 0 s) → i < length s
     → eqb (getD s i 0) 35 ≡ skipped s
 unfolding skipped
 skip-some s i e h =
-    let z : run Blank s ≡ i = omega arith in
+    let z : run Class.Blank s ≡ i = omega arith in
     rw z (simp (ne-eqb i (length s) (λ q. omega arith)))
 
-pub skip-none : (s : List ℕ) (i : ℕ) → i ≡ 0 + run Blank (drop 0 s) → length s ≤ i → true ≡ skipped s
+pub skip-none : (s : List ℕ) (i : ℕ) → i ≡ 0 + run Class.Blank (drop 0 s) → length s ≤ i → true ≡ skipped s
 unfolding skipped
 skip-none s i e h =
-    let z : run Blank s ≡ length s = omega (arith, run-le Blank s) in
-    simp (eq-eqb (run Blank s) (length s) z)
+    let z : run Class.Blank s ≡ length s = omega (arith, run-le Class.Blank s) in
+    simp (eq-eqb (run Class.Blank s) (length s) z)

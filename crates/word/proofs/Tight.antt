@@ -4,8 +4,12 @@ use mathlib.Core.Bool.{Bool}
 use mathlib.Core.List.{List}
 use Prim.Native.Nat.{ℕ, _+_}
 use lib.ListN.{drop}
-use Rattle.word.specs.Word.{Class, Span, Found, TypeName, Small, run, wordAt, skipped, nameForm}
-use Rattle.word.specs.Word.{readType, smallOf, padded, seek}
+use Rattle.word.specs.declared.Class.{Class}
+use Rattle.word.specs.declared.Found.{Found}
+use Rattle.word.specs.declared.Small.{Small}
+use Rattle.word.specs.declared.Span.{Span}
+use Rattle.word.specs.declared.TypeName.{TypeName}
+use Rattle.word.specs.Word.{run, wordAt, skipped, nameForm, readType, smallOf, padded, seek}
 
 pub only-run-from : (s : List ℕ) (i : ℕ) (k : Class) (r r' : ℕ) → r ≡ i + run k (drop i s) → r' ≡ i + run k (drop i s)
     → r ≡ r'

@@ -38,7 +38,7 @@ pub enum Small {
 // The most bytes of a name, and the width of a table of words.
 const WIDTH: usize = 16;
 
-const LARGEST: u16 = 255;
+const LARGEST: u64 = 255;
 
 fn of_class(class: Class, c: u8) -> bool
     ensures { λ r. ⌜ r ≡ inClass class c ⌝ }
@@ -127,20 +127,15 @@ pub fn read_small(word: &[u8]) -> Small
     if word.len() == 0 {
         return Small::Bad;
     }
-    let mut v: u16 = 0;
-    let mut i: usize = 0;
-    while i < word.len() {
-        let c = word[i];
-        if !text::is_digit(c) {
-            return Small::Bad;
-        }
-        v = v * 10 + (c - b'0') as u16;
-        if LARGEST < v {
-            return Small::Bad;
-        }
-        i += 1;
+    let read = text::decimal_at(word, 0);
+    if read.next != word.len() {
+        return Small::Bad;
     }
-    Small::Number(v as u8)
+    let n = read.number;
+    if LARGEST < n {
+        return Small::Bad;
+    }
+    Small::Number(n as u8)
 }
 
 // How many of n bytes a row holds.
