@@ -148,6 +148,7 @@ judged-fit names line i it n size e h l = go (seek commandWords (part line (word
             λ j i. fit n size names line (form (commandAt k) j) i most l in
             ap (itemOk n size) (sym same)
             ∙ made x n size (fits 0 _) (fits 1 _) (fits 2 _) (fits 3 _) (fits 4 _) (fits 5 _) (commandAt k .make)
-            (λ w. named-fit names line fa (wordAt line i .end) n (sym (ap (λ p. p .0) (asks k)) ∙ w) before-it (fine .0))
+            (λ w. named-fit names line fa (wordAt line i .end) n (sym (ap (λ p. p .0) (asks k)) ∙ w)
+            before-it (fine .0))
             (λ w. named-fit names line fb at-b n (sym (ap (λ p. p .1) (asks k)) ∙ w)
             (count-le (length names) n false (isNew fb) (sym (second-old k)) most) (fine .1))
