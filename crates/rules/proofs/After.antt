@@ -5,8 +5,10 @@ use mathlib.Core.Bool.{Bool, true, false, _||_}
 use mathlib.Core.List.{List, []}
 use native.Mathlib.Omega.{arith}
 use lib.ListN.{length}
-use Rattle.rules.specs.Words.{Item, act, pack, opens, branch, closes, breakloop, tag, endif, endloop}
-use Rattle.rules.specs.Words.{pckStart, pckAdd, pckEnd}
+use Rattle.table.specs.declared.Item.{Item}
+use Rattle.table.specs.declared.Item.the-variants as Item
+use Rattle.table.specs.declared.Close.the-variants as Close
+use Rattle.table.specs.declared.Pack.the-variants as Pack
 use Rattle.table.specs.Item.{isLoop, isSweep}
 use Rattle.table.specs.Uses.{Names, gives}
 use Rattle.sets.specs.Names.{either, put, namesOf}
@@ -22,19 +24,19 @@ module _ (a : Around) (h : Holds) (bs : List Box) where
       → markIn a h (plainForm x) ≡ false → either (h .sure) writes ≡ put (h .sure) (gives x)
       → stateAfter (isClose (plainForm x)) a (moved a h writes (plainForm x)) bs ≡ after (stateOf a h bs) x
   unfolding markIn moved
-  moved-is d e (act y) w o m p = rw p
-  moved-is d e (pack pckStart) w o m p = refl
-  moved-is d e (pack (pckAdd v)) w o m p = refl
-  moved-is d e (pack pckEnd) w o m p = refl
-  moved-is d e (opens y) w o m p = no (sym (formed (opens y) .opens') ∙ o)
-  moved-is zero e (branch y) w o m p = no (rw e at m)
-  moved-is (suc d) e (branch y) w o m p = rw e
-  moved-is zero e (closes endif) w o m p = no (rw e at m)
-  moved-is (suc d) e (closes endif) w o m p = rw e
-  moved-is zero e (closes endloop) w o m p = no (rw e at m)
-  moved-is (suc d) e (closes endloop) w o m p = rw e
-  moved-is d e breakloop w o m p = refl
-  moved-is d e tag w o m p = refl
+  moved-is d e (Item.Act y) w o m p = rw p
+  moved-is d e (Item.Pack Pack.Start) w o m p = refl
+  moved-is d e (Item.Pack (Pack.Add v)) w o m p = refl
+  moved-is d e (Item.Pack Pack.End) w o m p = refl
+  moved-is d e (Item.Open y) w o m p = no (sym (formed (Item.Open y) .opens') ∙ o)
+  moved-is zero e (Item.Branch y) w o m p = no (rw e at m)
+  moved-is (suc d) e (Item.Branch y) w o m p = rw e
+  moved-is zero e (Item.Close Close.EndIf) w o m p = no (rw e at m)
+  moved-is (suc d) e (Item.Close Close.EndIf) w o m p = rw e
+  moved-is zero e (Item.Close Close.EndLoop) w o m p = no (rw e at m)
+  moved-is (suc d) e (Item.Close Close.EndLoop) w o m p = rw e
+  moved-is d e Item.Break w o m p = refl
+  moved-is d e Item.Tag w o m p = refl
 
 -- a closing mark in its place is in a box
 pub close-inside : (a : Around) (h : Holds) (f : Form) → isClose f ≡ true → markIn a h f ≡ false → a .depth ≡ 0 → ⊥
@@ -45,8 +47,8 @@ close-inside a h (Form.Pack s) c m e = no (sym c)
 close-inside a h (Form.Open s) c m e = no (sym c)
 close-inside a h Form.Twice c m e = no (sym c)
 close-inside a h (Form.Branch s) c m e = no (sym c)
-close-inside a h (Form.Close endif) c m e = no (rw e at m)
-close-inside a h (Form.Close endloop) c m e = no (rw e at m)
+close-inside a h (Form.Close Close.EndIf) c m e = no (rw e at m)
+close-inside a h (Form.Close Close.EndLoop) c m e = no (rw e at m)
 close-inside a h Form.Break c m e = no (sym c)
 close-inside a h Form.Tag c m e = no (sym c)
 
@@ -59,13 +61,13 @@ module _ (a : Around) (h : Held) (bs : List Box) where
       → isOpen (plainForm x) ≡ true → q ≡ entered (holdsOf h) writes
       → either (namesOf (h .sure)) writes ≡ put (namesOf (h .sure)) (gives x)
       → stateOf r q within ≡ after (stateOf a (holdsOf h) bs) x
-  deeper-is (act y) r q w d o e p = no (sym o)
-  deeper-is (pack y) r q w d o e p = no (sym o)
-  deeper-is (opens y) r q w d o e p = rw (d .depth, d .sort ∙ head-sort y, d .before, e, p)
-  deeper-is (branch y) r q w d o e p = no (sym o)
-  deeper-is (closes y) r q w d o e p = no (sym o)
-  deeper-is breakloop r q w d o e p = no (sym o)
-  deeper-is tag r q w d o e p = no (sym o)
+  deeper-is (Item.Act y) r q w d o e p = no (sym o)
+  deeper-is (Item.Pack y) r q w d o e p = no (sym o)
+  deeper-is (Item.Open y) r q w d o e p = rw (d .depth, d .sort ∙ head-sort y, d .before, e, p)
+  deeper-is (Item.Branch y) r q w d o e p = no (sym o)
+  deeper-is (Item.Close y) r q w d o e p = no (sym o)
+  deeper-is Item.Break r q w d o e p = no (sym o)
+  deeper-is Item.Tag r q w d o e p = no (sym o)
 
   pub deeper-boxed : (f : Form) (r : Around) → Deeper a h f r → Boxed a bs → Boxed r within
   deeper-boxed f r d b = record {

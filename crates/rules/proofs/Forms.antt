@@ -3,8 +3,13 @@ use mathlib.Core.Path.{_≡_, refl, sym, ap, _∙_, subst}
 use mathlib.Core.Bool.{Bool, true, false, cond}
 use mathlib.Core.List.{List, [], _∷_}
 use lib.Dec.{eqb, T}
-use Rattle.rules.specs.Words.{Item, act, pack, opens, branch, closes, breakloop, tag}
-use Rattle.rules.specs.Words.{pckStart, pckAdd, pckEnd, Head, if', loop, sweep, Sweep, sweepBox}
+use Rattle.table.specs.declared.Item.{Item}
+use Rattle.table.specs.declared.Item.the-variants as Item
+use Rattle.table.specs.declared.Pack.the-variants as Pack
+use Rattle.table.specs.declared.Head.{Head}
+use Rattle.table.specs.declared.Head.the-variants as Head
+use Rattle.table.specs.declared.Sweep.{Sweep}
+use Rattle.table.specs.declared.Sort.the-variants as Sort
 use Rattle.table.specs.Item as Of
 use Rattle.table.specs.Uses.{breaksOrder}
 use Rattle.rules.specs.Check.{sameName}
@@ -42,29 +47,29 @@ plainly a b c d e f g h = record {
 
 -- the form of a measuring loop, by whether it has the same name twice
 sweep-formed : (w : Sweep) (b : Bool) → eqb (w .potential) (w .current) ≡ b
-    → Formed (opens (sweep w)) (cond b Form.Twice (Form.Open sweepBox))
+    → Formed (Item.Open (Head.Sweep w)) (cond b Form.Twice (Form.Open Sort.Sweep))
 sweep-formed w true e = plainly refl refl refl refl refl (sym e) refl (λ p. refl)
 sweep-formed w false e = plainly refl refl refl refl refl (sym e) refl (λ p. refl)
 
 pub formed : (x : Item) → Formed x (plainForm x)
-formed (act a) = plainly refl refl refl refl refl refl refl (λ p. refl)
-formed (pack pckStart) = plainly refl refl refl refl refl refl refl (λ p. refl)
-formed (pack (pckAdd v)) = plainly refl refl refl refl refl refl refl (λ p. refl)
-formed (pack pckEnd) = plainly refl refl refl refl refl refl refl (λ p. refl)
-formed (opens (if' c)) = plainly refl refl refl refl refl refl refl (λ p. refl)
-formed (opens (loop c)) = plainly refl refl refl refl refl refl refl (λ p. refl)
-formed (opens (sweep w)) = sweep-formed w (eqb (w .potential) (w .current)) refl
-formed (branch b) = plainly refl refl refl refl refl refl refl (λ p. refl)
-formed (closes e) = plainly refl refl refl refl refl refl refl (λ p. refl)
-formed breakloop = plainly refl refl refl refl refl refl refl (λ p. refl)
-formed tag = plainly refl refl refl refl refl refl refl (λ p. refl)
+formed (Item.Act a) = plainly refl refl refl refl refl refl refl (λ p. refl)
+formed (Item.Pack Pack.Start) = plainly refl refl refl refl refl refl refl (λ p. refl)
+formed (Item.Pack (Pack.Add v)) = plainly refl refl refl refl refl refl refl (λ p. refl)
+formed (Item.Pack Pack.End) = plainly refl refl refl refl refl refl refl (λ p. refl)
+formed (Item.Open (Head.If c)) = plainly refl refl refl refl refl refl refl (λ p. refl)
+formed (Item.Open (Head.Loop c)) = plainly refl refl refl refl refl refl refl (λ p. refl)
+formed (Item.Open (Head.Sweep w)) = sweep-formed w (eqb (w .potential) (w .current)) refl
+formed (Item.Branch b) = plainly refl refl refl refl refl refl refl (λ p. refl)
+formed (Item.Close e) = plainly refl refl refl refl refl refl refl (λ p. refl)
+formed Item.Break = plainly refl refl refl refl refl refl refl (λ p. refl)
+formed Item.Tag = plainly refl refl refl refl refl refl refl (λ p. refl)
 
 pub head-sort : (y : Head) → sortIn (headForm y) ≡ Of.sortOf y
-head-sort (if' c) = refl
-head-sort (loop c) = refl
-head-sort (sweep w) = by (eqb (w .potential) (w .current))
+head-sort (Head.If c) = refl
+head-sort (Head.Loop c) = refl
+head-sort (Head.Sweep w) = by (eqb (w .potential) (w .current))
   where
-    by : (b : Bool) → sortIn (cond b Form.Twice (Form.Open sweepBox)) ≡ sweepBox
+    by : (b : Bool) → sortIn (cond b Form.Twice (Form.Open Sort.Sweep)) ≡ Sort.Sweep
     by true = refl
     by false = refl
 

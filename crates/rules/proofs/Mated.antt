@@ -9,7 +9,10 @@ use native.Mathlib.Omega.{arith}
 use lib.Dec.{eqb, T}
 use lib.ListN.{length, take, drop, replicate}
 use borrow.Author.Tests.{eq-eqb}
-use Rattle.rules.specs.Words.{Item, act, pack, opens, branch, closes, breakloop, tag, Script, unknown}
+use Rattle.table.specs.declared.Item.{Item}
+use Rattle.table.specs.declared.Item.the-variants as Item
+use Rattle.table.specs.declared.Script.{Script}
+use Rattle.table.specs.declared.Known.the-variants as Known
 use Rattle.table.specs.Item.{isOpen, isBranch, isClose, fits}
 use Rattle.table.specs.Uses.{Kinds, lowest}
 use Rattle.table.specs.Shape.{itemsOf, inShape}
@@ -36,26 +39,26 @@ opensOf (b ∷ bs) = record { at = b .at; sort = b .sort } ∷ opensOf bs
 -- an item that is not misplaced leaves the boxes open that the text leaves open
 same-open : (i : ℕ) (s : Placed) (x : Item) → misplaced x (plains (s .boxes)) ≡ false
     → opensOf (after i s x .boxes) ≡ scan i x (opensOf (s .boxes))
-same-open i s (act a) e = refl
-same-open i s (pack p) e = refl
-same-open i s (opens h) e = refl
-same-open i s (branch b) e = by (s .boxes)
+same-open i s (Item.Act a) e = refl
+same-open i s (Item.Pack p) e = refl
+same-open i s (Item.Open h) e = refl
+same-open i s (Item.Branch b) e = by (s .boxes)
   where
-    by : (bs : List Box) → opensOf (after i (placed (s .sure) bs s) (branch b) .boxes) ≡ opensOf bs
+    by : (bs : List Box) → opensOf (after i (placed (s .sure) bs s) (Item.Branch b) .boxes) ≡ opensOf bs
     by [] = refl
     by (x ∷ bs) = refl
-same-open i s (closes e') e = by (s .boxes) e
+same-open i s (Item.Close e') e = by (s .boxes) e
   where
-    by : (bs : List Box) → misplaced (closes e') (plains bs) ≡ false
-        → opensOf (after i (placed (s .sure) bs s) (closes e') .boxes) ≡ scan i (closes e') (opensOf bs)
+    by : (bs : List Box) → misplaced (Item.Close e') (plains bs) ≡ false
+        → opensOf (after i (placed (s .sure) bs s) (Item.Close e') .boxes) ≡ scan i (Item.Close e') (opensOf bs)
     by [] d = no d
-    by (x ∷ bs) d = rw (fitting (fits (closes e') (x .sort)) d)
+    by (x ∷ bs) d = rw (fitting (fits (Item.Close e') (x .sort)) d)
       where
         fitting : (b : Bool) → (not b || false || false) ≡ false → b ≡ true
         fitting true d = refl
         fitting false d = no d
-same-open i s breakloop e = refl
-same-open i s tag e = refl
+same-open i s Item.Break e = refl
+same-open i s Item.Tag e = refl
 
 -- ---- a mark that is not misplaced belongs to the innermost open box
 
@@ -85,24 +88,24 @@ found-or false j r h = h refl
 -- it stays open past an item that does not close it
 still : (p i : ℕ) (x : Item) (st : List Open) → ((isBranch x || isClose x) ≡ true → fitsTop x st ≡ true)
     → (isClose x && belongs p x st) ≡ false → hasAt p st ≡ true → hasAt p (scan i x st) ≡ true
-still p i (act a) st f e h = h
-still p i (pack a) st f e h = h
-still p i (opens a) st f e h = or-right (eqb i p) (hasAt p st) h
+still p i (Item.Act a) st f e h = h
+still p i (Item.Pack a) st f e h = h
+still p i (Item.Open a) st f e h = or-right (eqb i p) (hasAt p st) h
   where
     or-right : (a b : Bool) → b ≡ true → (a || b) ≡ true
     or-right true b h = refl
     or-right false b h = h
-still p i (branch a) st f e h = h
-still p i (closes a) [] f e h = no (sym h)
-still p i (closes a) (o ∷ st) f e h =
-    rw (f refl) (other (fits (closes a) (o .sort)) (eqb (o .at) p) (hasAt p st) (f refl) e h)
+still p i (Item.Branch a) st f e h = h
+still p i (Item.Close a) [] f e h = no (sym h)
+still p i (Item.Close a) (o ∷ st) f e h =
+    rw (f refl) (other (fits (Item.Close a) (o .sort)) (eqb (o .at) p) (hasAt p st) (f refl) e h)
   where
     other : (g b r : Bool) → g ≡ true → (g && b) ≡ false → (b || r) ≡ true → r ≡ true
     other true true r k d h = no d
     other true false r k d h = h
     other false b r k d h = no (sym k)
-still p i breakloop st f e h = h
-still p i tag st f e h = h
+still p i Item.Break st f e h = h
+still p i Item.Tag st f e h = h
 
 module _ (k : Kinds) where
   -- one item of an accepted row
@@ -139,14 +142,14 @@ module _ (k : Kinds) where
   -- an opening mark is followed by its closing mark
   opened : (i : ℕ) (s : Placed) (x : Item) (xs : List Item) → walk k i (bare s) (x ∷ xs) ≡ accepted → isOpen x ≡ true
       → isFound (closeFrom i i (opensOf (s .boxes)) (x ∷ xs)) ≡ true
-  opened i s (act a) xs e h = no (sym h)
-  opened i s (pack a) xs e h = no (sym h)
-  opened i s (opens a) xs e h =
-      closed-later i (suc i) (after i s (opens a)) xs (one i s (opens a) xs e .1) (rw (eq-eqb i i refl))
-  opened i s (branch a) xs e h = no (sym h)
-  opened i s (closes a) xs e h = no (sym h)
-  opened i s breakloop xs e h = no (sym h)
-  opened i s tag xs e h = no (sym h)
+  opened i s (Item.Act a) xs e h = no (sym h)
+  opened i s (Item.Pack a) xs e h = no (sym h)
+  opened i s (Item.Open a) xs e h =
+      closed-later i (suc i) (after i s (Item.Open a)) xs (one i s (Item.Open a) xs e .1) (rw (eq-eqb i i refl))
+  opened i s (Item.Branch a) xs e h = no (sym h)
+  opened i s (Item.Close a) xs e h = no (sym h)
+  opened i s Item.Break xs e h = no (sym h)
+  opened i s Item.Tag xs e h = no (sym h)
 
   -- ---- at any place of an accepted row that starts at item i in s
 
@@ -173,7 +176,7 @@ module _ (k : Kinds) where
       (closing-at j (suc i) (after i s x) xs (one i s x xs e .1) (le-of-suc-le-suc h) m))
 
 abbrev kinds : Script → Kinds
-kinds t = kindsOf (replicate 32 unknown) (itemsOf t)
+kinds t = kindsOf (replicate 32 Known.Unknown) (itemsOf t)
 
 pub accepted-mated : (size : ℕ) (t : Script) → verdict size t ≡ accepted → Mated (itemsOf t)
 unfolding verdict

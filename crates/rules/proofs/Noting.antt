@@ -9,7 +9,9 @@ use lib.Dec.{eqb, leb}
 use lib.ListN.{length, getD, set, length-set}
 use lib.Seq.{getD-set-same, getD-set-other}
 use borrow.Author.Tests.{eqb-true, eqb-false, leb-true}
-use Rattle.rules.specs.Words.{Item, Slot, Script}
+use Rattle.table.specs.declared.Item.{Item}
+use Rattle.table.specs.declared.Slot.{Slot}
+use Rattle.table.specs.declared.Script.{Script}
 use Rattle.table.specs.Uses.{Kinds, Names, uses, gives}
 use Rattle.table.specs.Shape.{noSlot, slotAt, itemsIn, itemsOf, wantsOk, givesOk, ownOk, itemOk, itemsOk, inShape}
 use Rattle.table.proofs.Items.{drop-items, no-items}

@@ -5,7 +5,11 @@ use mathlib.Core.Path.{_≡_, refl, ap}
 use mathlib.Core.Bool.{Bool, true, false}
 use mathlib.Core.List.{List, [], _∷_}
 use lib.ListN.{length}
-use Rattle.rules.specs.Words.{Sort, Head, Branch, Item, act, pack, opens, branch, closes, breakloop, tag}
+use Rattle.table.specs.declared.Sort.{Sort}
+use Rattle.table.specs.declared.Head.{Head}
+use Rattle.table.specs.declared.Branch.{Branch}
+use Rattle.table.specs.declared.Item.{Item}
+use Rattle.table.specs.declared.Item.the-variants as Item
 use Rattle.table.specs.Item.{sortOf, isElse}
 use Rattle.table.specs.Uses.{Names, actGives, headGives, packs}
 use Rattle.sets.specs.Names.{nothing, everything, both, put}
@@ -67,30 +71,32 @@ abbrev pub opened : ℕ → Head → Names → Box
 opened i h s = record { at = i; sort = sortOf h; before = s; everyEnd = everything; elseSeen = false }
 
 abbrev pub after : ℕ → Placed → Item → Placed
-after i s (act a) = placed (put (s .sure) (actGives a)) (s .boxes) s
-after i s (pack p) = record { sure = s .sure; boxes = s .boxes; packed = packs p (s .packed); tagged = s .tagged }
-after i s (opens h) = placed (put (s .sure) (headGives h)) (opened i h (s .sure) ∷ s .boxes) s
-after i s (branch b) = branched b s (s .boxes)
-after i s (closes e) = closed s (s .boxes)
-after i s breakloop = s
-after i s tag = record { sure = nothing; boxes = s .boxes; packed = s .packed; tagged = true }
+after i s (Item.Act a) = placed (put (s .sure) (actGives a)) (s .boxes) s
+after i s (Item.Pack p) = record { sure = s .sure; boxes = s .boxes; packed = packs p (s .packed); tagged = s .tagged }
+after i s (Item.Open h) = placed (put (s .sure) (headGives h)) (opened i h (s .sure) ∷ s .boxes) s
+after i s (Item.Branch b) = branched b s (s .boxes)
+after i s (Item.Close e) = closed s (s .boxes)
+after i s Item.Break = s
+after i s Item.Tag = record { sure = nothing; boxes = s .boxes; packed = s .packed; tagged = true }
 
 -- it is the rules' own walk
 pub same-walk : (i : ℕ) (s : Placed) (x : Item) → bare (after i s x) ≡ afterPlain (bare s) x
-same-walk i s (act a) = refl
-same-walk i s (pack p) = refl
-same-walk i s (opens h) = refl
-same-walk i s (branch b) = by (s .boxes)
+same-walk i s (Item.Act a) = refl
+same-walk i s (Item.Pack p) = refl
+same-walk i s (Item.Open h) = refl
+same-walk i s (Item.Branch b) = by (s .boxes)
   where
     by : (bs : List Box)
-        → bare (after i (placed (s .sure) bs s) (branch b)) ≡ afterPlain (bare (placed (s .sure) bs s)) (branch b)
+        → bare (after i (placed (s .sure) bs s) (Item.Branch b))
+        ≡ afterPlain (bare (placed (s .sure) bs s)) (Item.Branch b)
     by [] = refl
     by (x ∷ bs) = refl
-same-walk i s (closes e) = by (s .boxes)
+same-walk i s (Item.Close e) = by (s .boxes)
   where
     by : (bs : List Box)
-        → bare (after i (placed (s .sure) bs s) (closes e)) ≡ afterPlain (bare (placed (s .sure) bs s)) (closes e)
+        → bare (after i (placed (s .sure) bs s) (Item.Close e))
+        ≡ afterPlain (bare (placed (s .sure) bs s)) (Item.Close e)
     by [] = refl
     by (x ∷ bs) = refl
-same-walk i s breakloop = refl
-same-walk i s tag = refl
+same-walk i s Item.Break = refl
+same-walk i s Item.Tag = refl

@@ -7,8 +7,12 @@ use native.Mathlib.Omega.{arith}
 use lib.Dec.{leb, eqb}
 use lib.ListN.{length}
 use borrow.Author.Tests.{ne-eqb, leb-false}
-use Rattle.rules.specs.Words.{Item, act, pack, opens, branch, closes, breakloop, tag, endif, endloop}
-use Rattle.rules.specs.Words.{Head, if', loop, sweep, sweepBox}
+use Rattle.table.specs.declared.Item.{Item}
+use Rattle.table.specs.declared.Item.the-variants as Item
+use Rattle.table.specs.declared.Close.the-variants as Close
+use Rattle.table.specs.declared.Head.{Head}
+use Rattle.table.specs.declared.Head.the-variants as Head
+use Rattle.table.specs.declared.Sort.the-variants as Sort
 use Rattle.table.specs.Item as Of
 use Rattle.table.specs.Item.{isLoop}
 use Rattle.table.specs.Uses.{Kinds, kindAt, Names, has, missing, lowest, uses, gives}
@@ -53,33 +57,33 @@ open-in (suc d) b bs = rw (some-open d)
 module _ (a : Around) (h : Holds) (bs : List Box) where
   head-in : (y : Head) → markIn a h (headForm y) ≡ false
   unfolding markIn
-  head-in (if' c) = refl
-  head-in (loop c) = refl
-  head-in (sweep w) = by (eqb (w .potential) (w .current))
+  head-in (Head.If c) = refl
+  head-in (Head.Loop c) = refl
+  head-in (Head.Sweep w) = by (eqb (w .potential) (w .current))
     where
-      by : (b : Bool) → markIn a h (cond b Form.Twice (Form.Open sweepBox)) ≡ false
+      by : (b : Bool) → markIn a h (cond b Form.Twice (Form.Open Sort.Sweep)) ≡ false
       by true = refl
       by false = refl
 
   mark-in : (d : ℕ) → a .depth ≡ d → a .looped ≡ anyBox isLoop (boxesIn d (boxOf a h) bs) → (x : Item)
       → markIn a h (plainForm x) ≡ misplaced x (boxesIn d (boxOf a h) bs)
   unfolding markIn
-  mark-in zero e b (act y) = refl
-  mark-in (suc d) e b (act y) = refl
-  mark-in zero e b (pack y) = refl
-  mark-in (suc d) e b (pack y) = refl
-  mark-in zero e b (opens y) = head-in y
-  mark-in (suc d) e b (opens y) = head-in y
-  mark-in zero e b (branch y) = rw e
-  mark-in (suc d) e b (branch y) = rw (e, some-open d) (sym (or-false _))
-  mark-in zero e b (closes endif) = rw e
-  mark-in (suc d) e b (closes endif) = rw (e, some-open d) (sym (or-false _ ∙ or-false _))
-  mark-in zero e b (closes endloop) = rw e
-  mark-in (suc d) e b (closes endloop) = rw (e, some-open d) (sym (or-false _ ∙ or-false _))
-  mark-in zero e b breakloop = ap not b
-  mark-in (suc d) e b breakloop = ap not b
-  mark-in zero e b tag = refl
-  mark-in (suc d) e b tag = refl
+  mark-in zero e b (Item.Act y) = refl
+  mark-in (suc d) e b (Item.Act y) = refl
+  mark-in zero e b (Item.Pack y) = refl
+  mark-in (suc d) e b (Item.Pack y) = refl
+  mark-in zero e b (Item.Open y) = head-in y
+  mark-in (suc d) e b (Item.Open y) = head-in y
+  mark-in zero e b (Item.Branch y) = rw e
+  mark-in (suc d) e b (Item.Branch y) = rw (e, some-open d) (sym (or-false _))
+  mark-in zero e b (Item.Close Close.EndIf) = rw e
+  mark-in (suc d) e b (Item.Close Close.EndIf) = rw (e, some-open d) (sym (or-false _ ∙ or-false _))
+  mark-in zero e b (Item.Close Close.EndLoop) = rw e
+  mark-in (suc d) e b (Item.Close Close.EndLoop) = rw (e, some-open d) (sym (or-false _ ∙ or-false _))
+  mark-in zero e b Item.Break = ap not b
+  mark-in (suc d) e b Item.Break = ap not b
+  mark-in zero e b Item.Tag = refl
+  mark-in (suc d) e b Item.Tag = refl
 
 -- ---- the rows, whatever boxes are around
 

@@ -10,7 +10,9 @@ use lib.Seq.{set-getD}
 use Rattle.table.specs.Uses.{Names, has, Kinds, kindAt, differ}
 use Rattle.sets.specs.Names.{nothing, namesOf}
 use Rattle.sets.proofs.Bits.{length-names}
-use Rattle.rules.specs.Words.{Known, unknown, known, wholeKind, realKind}
+use Rattle.table.specs.declared.Known.{Known}
+use Rattle.table.specs.declared.Known.the-variants as Known
+use Rattle.table.specs.declared.Kind.the-variants as Kind
 use Rattle.rules.specs.Check.{isKnown, orElse}
 use Rattle.rules.specs.Code.{Sorted, kindBy, kindsBy, kindsIn, isWhole, isFloat, learnt}
 
@@ -60,64 +62,64 @@ module _ (k : Sorted) (n : ℕ) where
 -- ---- two kinds that differ
 
 pub differs : (j l : Known) → (isWhole j && isFloat l || isFloat j && isWhole l) ≡ differ j l
-differs unknown l = refl
-differs (known wholeKind) unknown = refl
-differs (known realKind) unknown = refl
-differs (known wholeKind) (known wholeKind) = refl
-differs (known wholeKind) (known realKind) = refl
-differs (known realKind) (known wholeKind) = refl
-differs (known realKind) (known realKind) = refl
+differs Known.Unknown l = refl
+differs (Known.Of Kind.Whole) Known.Unknown = refl
+differs (Known.Of Kind.Real) Known.Unknown = refl
+differs (Known.Of Kind.Whole) (Known.Of Kind.Whole) = refl
+differs (Known.Of Kind.Whole) (Known.Of Kind.Real) = refl
+differs (Known.Of Kind.Real) (Known.Of Kind.Whole) = refl
+differs (Known.Of Kind.Real) (Known.Of Kind.Real) = refl
 
-pub not-float : (j : Known) → isWhole j ≡ differ j (known realKind)
-not-float unknown = refl
-not-float (known wholeKind) = refl
-not-float (known realKind) = refl
+pub not-float : (j : Known) → isWhole j ≡ differ j (Known.Of Kind.Real)
+not-float Known.Unknown = refl
+not-float (Known.Of Kind.Whole) = refl
+not-float (Known.Of Kind.Real) = refl
 
 -- ---- a kind learnt
 
 pub none-known : (k : Sorted) → namesOf (k .whole) ≡ nothing → namesOf (k .real) ≡ nothing
-    → kindsIn k ≡ replicate 32 unknown
+    → kindsIn k ≡ replicate 32 Known.Unknown
 unfolding kindsIn kindsBy
 none-known k e f = rw (e, f)
 
 module _ (k : Kinds) (n : ℕ) where
   same : (j : Known) → orElse (kindAt k n) j ≡ kindAt k n → k ≡ learnt k n j
-  same j e = sym (ap (set k n) e ∙ set-getD k n unknown)
+  same j e = sym (ap (set k n) e ∙ set-getD k n Known.Unknown)
 
   pub keeps : (j : Known) → isKnown (kindAt k n) ≡ true → k ≡ learnt k n j
   keeps j h = same j (by (kindAt k n) h)
     where
       by : (i : Known) → isKnown i ≡ true → orElse i j ≡ i
-      by unknown h = no (sym h)
-      by (known i) h = refl
+      by Known.Unknown h = no (sym h)
+      by (Known.Of i) h = refl
 
   pub teaches-none : (j : Known) → isWhole j ≡ false → isFloat j ≡ false → k ≡ learnt k n j
-  teaches-none unknown e f = same unknown (by (kindAt k n))
+  teaches-none Known.Unknown e f = same Known.Unknown (by (kindAt k n))
     where
-      by : (i : Known) → orElse i unknown ≡ i
-      by unknown = refl
-      by (known i) = refl
-  teaches-none (known wholeKind) e f = no e
-  teaches-none (known realKind) e f = no f
+      by : (i : Known) → orElse i Known.Unknown ≡ i
+      by Known.Unknown = refl
+      by (Known.Of i) = refl
+  teaches-none (Known.Of Kind.Whole) e f = no e
+  teaches-none (Known.Of Kind.Real) e f = no f
 
   learns-first : (j : Known) → isKnown (kindAt k n) ≡ false → set k n j ≡ learnt k n j
   learns-first j h = ap (set k n) (by (kindAt k n) h)
     where
       by : (i : Known) → isKnown i ≡ false → j ≡ orElse i j
-      by unknown h = refl
-      by (known i) h = no h
+      by Known.Unknown h = refl
+      by (Known.Of i) h = no h
 
-pub is-whole : (j : Known) → isWhole j ≡ true → known wholeKind ≡ j
-is-whole unknown e = no (sym e)
-is-whole (known wholeKind) e = refl
-is-whole (known realKind) e = no (sym e)
+pub is-whole : (j : Known) → isWhole j ≡ true → Known.Of Kind.Whole ≡ j
+is-whole Known.Unknown e = no (sym e)
+is-whole (Known.Of Kind.Whole) e = refl
+is-whole (Known.Of Kind.Real) e = no (sym e)
 
-pub is-float : (j : Known) → isFloat j ≡ true → known realKind ≡ j
-is-float unknown e = no (sym e)
-is-float (known wholeKind) e = no (sym e)
-is-float (known realKind) e = refl
+pub is-float : (j : Known) → isFloat j ≡ true → Known.Of Kind.Real ≡ j
+is-float Known.Unknown e = no (sym e)
+is-float (Known.Of Kind.Whole) e = no (sym e)
+is-float (Known.Of Kind.Real) e = refl
 
-set-whole : (s t : Names) (n : ℕ) → kindsBy (set s n true) t ≡ set (kindsBy s t) n (known wholeKind)
+set-whole : (s t : Names) (n : ℕ) → kindsBy (set s n true) t ≡ set (kindsBy s t) n (Known.Of Kind.Whole)
 unfolding kindsBy
 set-whole [] t n = refl
 set-whole (a ∷ s) [] zero = refl
@@ -125,7 +127,7 @@ set-whole (a ∷ s) [] (suc n) = refl
 set-whole (a ∷ s) (b ∷ t) zero = refl
 set-whole (a ∷ s) (b ∷ t) (suc n) = ap (λ (l : Kinds). kindBy a b ∷ l) (set-whole s t n)
 
-set-real : (s t : Names) (n : ℕ) → has s n ≡ false → kindsBy s (set t n true) ≡ set (kindsBy s t) n (known realKind)
+set-real : (s t : Names) (n : ℕ) → has s n ≡ false → kindsBy s (set t n true) ≡ set (kindsBy s t) n (Known.Of Kind.Real)
 unfolding kindsBy
 set-real [] t n h = refl
 set-real (a ∷ s) [] n h = refl
@@ -134,11 +136,11 @@ set-real (a ∷ s) (b ∷ t) (suc n) h = ap (λ (l : Kinds). kindBy a b ∷ l) (
 
 module _ (k : Sorted) (n w : ℕ) (new : isKnown (kindAt (kindsIn k) n) ≡ false) where
   pub whole-learnt : namesOf w ≡ set (namesOf (k .whole)) n true
-      → kindsIn (record { whole = w; real = k .real }) ≡ learnt (kindsIn k) n (known wholeKind)
+      → kindsIn (record { whole = w; real = k .real }) ≡ learnt (kindsIn k) n (Known.Of Kind.Whole)
   unfolding kindsIn
   whole-learnt e =
       ap (λ (s : Names). kindsBy s (namesOf (k .real))) e ∙ set-whole (namesOf (k .whole)) (namesOf (k .real)) n
-      ∙ learns-first (kindsIn k) n (known wholeKind) new
+      ∙ learns-first (kindsIn k) n (Known.Of Kind.Whole) new
 
   not-whole : has (namesOf (k .whole)) n ≡ false
   not-whole = by (has (namesOf (k .whole)) n) (has (namesOf (k .real)) n) (known-there k n ∙ new)
@@ -148,8 +150,8 @@ module _ (k : Sorted) (n w : ℕ) (new : isKnown (kindAt (kindsIn k) n) ≡ fals
       by false b e = refl
 
   pub real-learnt : namesOf w ≡ set (namesOf (k .real)) n true
-      → kindsIn (record { whole = k .whole; real = w }) ≡ learnt (kindsIn k) n (known realKind)
+      → kindsIn (record { whole = k .whole; real = w }) ≡ learnt (kindsIn k) n (Known.Of Kind.Real)
   unfolding kindsIn
   real-learnt e =
       ap (kindsBy (namesOf (k .whole))) e ∙ set-real (namesOf (k .whole)) (namesOf (k .real)) n not-whole
-      ∙ learns-first (kindsIn k) n (known realKind) new
+      ∙ learns-first (kindsIn k) n (Known.Of Kind.Real) new

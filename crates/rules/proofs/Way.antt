@@ -6,13 +6,18 @@ use mathlib.Core.List.{List, []}
 use native.Mathlib.Omega.{arith}
 use native.Mathlib.Numerals.{add-one}
 use lib.ListN.{drop, getD, replicate}
-use Rattle.rules.specs.Words.{Item, Script, unknown}
+use Rattle.table.specs.declared.Item.{Item}
+use Rattle.table.specs.declared.Script.{Script}
+use Rattle.table.specs.declared.Known.the-variants as Known
 use Rattle.table.specs.Uses.{Kinds, kindAt, uses, gives, lowest}
 use Rattle.table.specs.Shape.{itemsOf, inShape}
 use Rattle.sets.specs.Names.{namesOf}
 use Rattle.rules.specs.Check.{Box, State, begin, kindsOf, refusals, refusalsAtEnd, after, Verdict, accepted}
 use Rattle.rules.specs.Check.{refused, orGo, walk, lineOf, atLine, verdict}
-use Rattle.rules.specs.Verdict.{Rule, Finding, Nothing, Broken, numberOf, found}
+use Rattle.rules.specs.declared.Rule.{Rule}
+use Rattle.rules.specs.declared.Finding.{Finding}
+use Rattle.rules.specs.declared.Finding.the-variants as Finding
+use Rattle.rules.specs.Verdict.{numberOf, found}
 use Rattle.rules.specs.Code.{Form, Around, Held, Holds, holdsOf, boxOf, boxesIn, stateOf, stateAfter, Boxed}
 use Rattle.rules.specs.Code.{Notes, NotedAt, Told, isOpen, isClose, rowsIn, rowsAtEnd, moved, Deeper, entered}
 use Rattle.rules.specs.Code.{Outside, Starts, Walk, Out, restOf, comeTo, comeOut, outcome, outState}
@@ -36,13 +41,13 @@ number-positive Rule.SameName = omega arith
 number-positive Rule.Nested = omega arith
 number-positive Rule.Shape = omega arith
 
-positive : {f : Finding} {q : Rule} → f ≡ Broken q → found f ≡ 0 → ⊥
+positive : {f : Finding} {q : Rule} → f ≡ Finding.Broken q → found f ≡ 0 → ⊥
 positive {f} {q} e z = never (number-positive q) (sym (ap found e) ∙ z)
   where
     never : {n : ℕ} → 19 ≤ n → n ≡ 0 → ⊥
     never h e = omega arith
 
-pub not-nothing : {X : Type 0} {f : Finding} {q : Rule} → f ≡ Broken q → f ≡ Nothing → X
+pub not-nothing : {X : Type 0} {f : Finding} {q : Rule} → f ≡ Finding.Broken q → f ≡ Finding.Nothing → X
 not-nothing e n = absurd (positive e (ap found n))
 
 orGo-same : (n i : ℕ) (u v : Verdict) → (n ≡ 0 → ⊥) → orGo n i u ≡ orGo n i v
@@ -80,17 +85,18 @@ module _ {t : Notes} {i : ℕ} {a : Around} {h : Held} {f : Finding} (j : Judged
         (ap (λ (n : ℕ). orGo n i (walk k (suc i) (after state (now' .item)) (drop (suc i) xs)))
         (sym (j .number ∙ judged-in (now' .noted) a h bs b)))
 
-    goes-on : f ≡ Nothing → restOf k xs (i + 1) (after state (now' .item)) ≡ restOf k xs i state
+    goes-on : f ≡ Finding.Nothing → restOf k xs (i + 1) (after state (now' .item)) ≡ restOf k xs i state
     goes-on e =
         sym (rest-next ∙ ap (λ (g : Finding). orGo (found g) i (restOf k xs (i + 1) (after state (now' .item)))) e)
 
-    is-plain : f ≡ Nothing → form ≡ plainForm (now' .item)
+    is-plain : f ≡ Finding.Nothing → form ≡ plainForm (now' .item)
     is-plain e =
         plain-form (wrongBoth (kindAt k) (uses (now' .item)) (gives (now' .item))) (now' .item) (now' .noted .form)
         (right-form a (holdsOf h) (namesOf (getD (t .reads) i 0)) form (sym (j .number) ∙ ap found e))
 
   -- refused there
-  pub refused-at : {q : Rule} → f ≡ Broken q → Took t i a h (record { at = i; finding = f; closed = false; held = h })
+  pub refused-at : {q : Rule} → f ≡ Finding.Broken q
+      → Took t i a h (record { at = i; finding = f; closed = false; held = h })
   unfolding comeTo
   refused-at e = record {
     same = λ k xs told bs b. orGo-same (found f) i _ _ (positive e) ∙ sym (rest-next told bs b);
@@ -101,9 +107,9 @@ module _ {t : Notes} {i : ℕ} {a : Around} {h : Held} {f : Finding} (j : Judged
   }
 
   -- one item further
-  pub passed : f ≡ Nothing → isOpen form ≡ false → (c : Bool) → c ≡ isClose form → (q : Held)
+  pub passed : f ≡ Finding.Nothing → isOpen form ≡ false → (c : Bool) → c ≡ isClose form → (q : Held)
       → holdsOf q ≡ moved a (holdsOf h) (namesOf (getD (t .writes) i 0)) form
-      → Took t i a h (record { at = i + 1; finding = Nothing; closed = c; held = q })
+      → Took t i a h (record { at = i + 1; finding = Finding.Nothing; closed = c; held = q })
   unfolding comeTo
   passed e o c ce q qe = record {
     same = λ k xs told bs b. ap (restOf k xs (i + 1)) (moves told bs b) ∙ goes-on told bs b e;
@@ -126,7 +132,7 @@ module _ {t : Notes} {i : ℕ} {a : Around} {h : Held} {f : Finding} (j : Judged
           (sym (ap isOpen p) ∙ o) (sym (ap (markIn a (holdsOf h)) p) ∙ unmarked) (now' told bs b .noted .adds (h .sure))
 
   -- past the box that the item opens
-  pub opened : f ≡ Nothing → isOpen form ≡ true → (r : Around) → Deeper a h form r → (q : Held)
+  pub opened : f ≡ Finding.Nothing → isOpen form ≡ true → (r : Around) → Deeper a h form r → (q : Held)
       → holdsOf q ≡ entered (holdsOf h) (namesOf (getD (t .writes) i 0)) → (out : Out) → Went t (i + 1) r q out
       → Took t i a h (backBy out h)
   unfolding comeTo comeOut
@@ -159,7 +165,8 @@ pub record Same (t : Notes) (a : Around) (j : ℕ) (g : Held) (i : ℕ) (h : Hel
   pub within : j ≤ t .count
 
 module _ {t : Notes} {a : Around} {i j : ℕ} {h g : Held} (s : Same t a j g i h) where
-  pub again : {r : Walk} → Took t j a g r → r .finding ≡ Nothing → r .closed ≡ false → Same t a (r .at) (r .held) i h
+  pub again : {r : Walk} → Took t j a g r → r .finding ≡ Finding.Nothing → r .closed ≡ false
+      → Same t a (r .at) (r .held) i h
   unfolding comeTo
   again {r} w e c = record {
     still = λ k xs told bs b. sym (ap₂ (λ (f : Finding) (q : Bool).
@@ -169,7 +176,7 @@ module _ {t : Notes} {a : Around} {i j : ℕ} {h g : Held} (s : Same t a j g i h
     within = w .within;
   }
 
-  pub out-refused : {r : Walk} {q : Rule} → Took t j a g r → r .finding ≡ Broken q → Went t i a h (leftBy r)
+  pub out-refused : {r : Walk} {q : Rule} → Took t j a g r → r .finding ≡ Finding.Broken q → Went t i a h (leftBy r)
   unfolding comeTo comeOut
   out-refused {r} w e = record {
     same = λ k xs told bs b. orGo-same (found (r .finding)) (r .at) _ _ (positive e) ∙ w .same k xs told bs b
@@ -231,9 +238,9 @@ came t {k} {xs} a h r told o s w =
   where
     by : (f : Finding) → r .finding ≡ f
         → outcome r ≡ orGo (found (r .finding)) (r .at) (restOf k xs (r .at) (outState r []))
-    by Nothing e =
+    by Finding.Nothing e =
         ap (orGo (found (r .finding)) (r .at)) (sym (w .done k xs told [] (no-boxes a o) (o .depth) e))
-    by (Broken q) e =
+    by (Finding.Broken q) e =
         orGo-same (found (r .finding)) (r .at) accepted (restOf k xs (r .at) (outState r [])) (positive e)
 
 -- ---- the verdict
@@ -246,17 +253,17 @@ module _ (size : ℕ) (t : Script) where
   -- the whole row is walked, and this is what came of it
   pub record Ended (k : Kinds) (r : Out) : Type 0 where
     pub shape : inShape size t ≡ true
-    pub kinds : k ≡ kindsOf (replicate 32 unknown) (itemsOf t)
+    pub kinds : k ≡ kindsOf (replicate 32 Known.Unknown) (itemsOf t)
     pub walks : outcome r ≡ walk k 0 begin (itemsOf t)
 
   in-shape : {k : Kinds} {r : Out} → Ended k r → atLine t (outcome r) ≡ verdict size t
   unfolding verdict
   in-shape e = rw (e .shape, e .walks, e .kinds)
 
-  pub says-accepted : {k : Kinds} {r : Out} → Ended k r → r .finding ≡ Nothing → accepted ≡ verdict size t
+  pub says-accepted : {k : Kinds} {r : Out} → Ended k r → r .finding ≡ Finding.Nothing → accepted ≡ verdict size t
   says-accepted e n = rw n at (in-shape e)
 
-  pub says-refused : {k : Kinds} {r : Out} → Ended k r → {q : Rule} (line : ℕ) → r .finding ≡ Broken q
+  pub says-refused : {k : Kinds} {r : Out} → Ended k r → {q : Rule} (line : ℕ) → r .finding ≡ Finding.Broken q
       → line ≡ lineOf t (r .at) → refused (numberOf q) line ≡ verdict size t
   says-refused {r = r} e {q} line b l = rw l (sym (number-stands q) ∙ (rw b at (in-shape e)))
     where

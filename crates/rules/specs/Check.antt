@@ -5,12 +5,21 @@ use mathlib.Core.Bool.{Bool, true, false, not, _&&_, _||_, cond}
 use mathlib.Core.List.{List, [], _∷_}
 use lib.Dec.{eqb, ltb, leb}
 use lib.ListN.{length, set, replicate}
-use Rattle.rules.specs.Words.{Act, var, store, copy, calc, meas, timerGet, sendString, wait, setE}
-use Rattle.rules.specs.Words.{setMode, timerStart, cellOn, cellOff, abort}
-use Rattle.rules.specs.Words.{Head, if', loop, sweep, Branch, Script}
-use Rattle.rules.specs.Words.{Item, act, pack, opens, branch, closes, breakloop, tag}
-use Rattle.rules.specs.Words.{Sort, ifBox, loopBox, sweepBox, Known, unknown, known, realKind}
-use Rattle.rules.specs.Words.{Give, like, float}
+use Rattle.table.specs.declared.Act.{Act}
+use Rattle.table.specs.declared.Act.the-variants as Act
+use Rattle.table.specs.declared.Head.{Head}
+use Rattle.table.specs.declared.Head.the-variants as Head
+use Rattle.table.specs.declared.Branch.{Branch}
+use Rattle.table.specs.declared.Script.{Script}
+use Rattle.table.specs.declared.Item.{Item}
+use Rattle.table.specs.declared.Item.the-variants as Item
+use Rattle.table.specs.declared.Sort.{Sort}
+use Rattle.table.specs.declared.Sort.the-variants as Sort
+use Rattle.table.specs.declared.Known.{Known}
+use Rattle.table.specs.declared.Known.the-variants as Known
+use Rattle.table.specs.declared.Kind.the-variants as Kind
+use Rattle.table.specs.declared.Give.{Give}
+use Rattle.table.specs.declared.Give.the-variants as Give
 use Rattle.table.specs.Item.{sortOf, isOpen, isBranch, isClose, isBreak, isTag, isElse, isLoop, isSweep, opensA, fits}
 use Rattle.table.specs.Uses.{Kinds, kindAt, kindIn, Names, has, uses, gives, actGives, headGives, wrong, wrongGive}
 use Rattle.table.specs.Uses.{missing, breaksOrder, packs, lowest}
@@ -21,44 +30,44 @@ use Rattle.sets.specs.Names.{nothing, everything, both, put}
 -- source has no kind from earlier lines"
 
 abbrev pub isKnown : Known → Bool
-isKnown unknown = false
-isKnown (known j) = true
+isKnown Known.Unknown = false
+isKnown (Known.Of j) = true
 
 -- arithmetic, and a copy whose source has no kind
 abbrev pub passedAct : Kinds → Act → Bool
-passedAct k (var v) = false
-passedAct k (store v l t) = false
-passedAct k (copy a b) = not (isKnown (kindAt k a))
-passedAct k (calc o v x) = true
-passedAct k (meas f v t) = false
-passedAct k (timerGet v) = false
-passedAct k (sendString s) = false
-passedAct k (wait f) = false
-passedAct k (setE f) = false
-passedAct k (setMode n) = false
-passedAct k timerStart = false
-passedAct k cellOn = false
-passedAct k cellOff = false
-passedAct k abort = false
+passedAct k (Act.Var v) = false
+passedAct k (Act.Store v l t) = false
+passedAct k (Act.Copy a b) = not (isKnown (kindAt k a))
+passedAct k (Act.Calc o v x) = true
+passedAct k (Act.Meas f v t) = false
+passedAct k (Act.TimerGet v) = false
+passedAct k (Act.SendString s) = false
+passedAct k (Act.Wait f) = false
+passedAct k (Act.SetE f) = false
+passedAct k (Act.SetMode n) = false
+passedAct k Act.TimerStart = false
+passedAct k Act.CellOn = false
+passedAct k Act.CellOff = false
+passedAct k Act.Abort = false
 
 abbrev pub passedOver : Kinds → Item → Bool
-passedOver k (act a) = passedAct k a
-passedOver k (pack p) = false
-passedOver k (opens h) = false
-passedOver k (branch b) = false
-passedOver k (closes e) = false
-passedOver k breakloop = false
-passedOver k tag = false
+passedOver k (Item.Act a) = passedAct k a
+passedOver k (Item.Pack p) = false
+passedOver k (Item.Open h) = false
+passedOver k (Item.Branch b) = false
+passedOver k (Item.Close e) = false
+passedOver k Item.Break = false
+passedOver k Item.Tag = false
 
 -- the first writing: a name that has a kind keeps it
 abbrev pub orElse : Known → Known → Known
-orElse unknown k = k
-orElse (known j) k = known j
+orElse Known.Unknown k = k
+orElse (Known.Of j) k = Known.Of j
 
 abbrev pub learn : Kinds → List Give → Kinds
 learn k [] = k
-learn k (like n x ∷ gs) = learn (set k n (orElse (kindAt k n) (kindIn (kindAt k) x))) gs
-learn k (float n ∷ gs) = learn (set k n (orElse (kindAt k n) (known realKind))) gs
+learn k (Give.Like n x ∷ gs) = learn (set k n (orElse (kindAt k n) (kindIn (kindAt k) x))) gs
+learn k (Give.Float n ∷ gs) = learn (set k n (orElse (kindAt k n) (Known.Of Kind.Real))) gs
 
 abbrev pub learnItem : Kinds → Item → Kinds
 learnItem k x = cond (passedOver k x) k (learn k (gives x))
@@ -115,18 +124,18 @@ misplaced x (b ∷ bs) =
 
 -- 25: the same name twice in meas_loop_lsv
 abbrev pub sameIn : Head → Bool
-sameIn (if' c) = false
-sameIn (loop c) = false
-sameIn (sweep w) = eqb (w .potential) (w .current)
+sameIn (Head.If c) = false
+sameIn (Head.Loop c) = false
+sameIn (Head.Sweep w) = eqb (w .potential) (w .current)
 
 abbrev pub sameName : Item → Bool
-sameName (act a) = false
-sameName (pack p) = false
-sameName (opens h) = sameIn h
-sameName (branch b) = false
-sameName (closes e) = false
-sameName breakloop = false
-sameName tag = false
+sameName (Item.Act a) = false
+sameName (Item.Pack p) = false
+sameName (Item.Open h) = sameIn h
+sameName (Item.Branch b) = false
+sameName (Item.Close e) = false
+sameName Item.Break = false
+sameName Item.Tag = false
 
 abbrev pub refusals : Kinds → State → Item → List (ℕ × Bool)
 refusals k s x =
@@ -149,9 +158,9 @@ refusalsAtEnd s = (21, not (isEmpty (s .boxes))) ∷ (23, s .packed) ∷ []
 -- after endif, what holds at the end of every branch, a missing else being an empty branch; after any loop, what held
 -- before it
 abbrev pub afterBox : Sort → Box → Names → Names
-afterBox ifBox b s = both (both (b .everyEnd) s) (cond (b .elseSeen) everything (b .before))
-afterBox loopBox b s = b .before
-afterBox sweepBox b s = b .before
+afterBox Sort.If b s = both (both (b .everyEnd) s) (cond (b .elseSeen) everything (b .before))
+afterBox Sort.Loop b s = b .before
+afterBox Sort.Sweep b s = b .before
 
 -- each branch starts with what held before its if
 abbrev pub branched : Branch → State → List Box → State
@@ -176,19 +185,19 @@ closed s (b ∷ bs) =
 -- a loop body starts with what held before it, plus both names for a measuring loop; at the tag nothing is surely
 -- written
 abbrev pub after : State → Item → State
-after s (act a) =
+after s (Item.Act a) =
     record { sure = put (s .sure) (actGives a); boxes = s .boxes; packed = s .packed; tagged = s .tagged }
-after s (pack p) = record { sure = s .sure; boxes = s .boxes; packed = packs p (s .packed); tagged = s .tagged }
-after s (opens h) = record {
+after s (Item.Pack p) = record { sure = s .sure; boxes = s .boxes; packed = packs p (s .packed); tagged = s .tagged }
+after s (Item.Open h) = record {
   sure = put (s .sure) (headGives h);
   boxes = record { sort = sortOf h; before = s .sure; everyEnd = everything; elseSeen = false } ∷ s .boxes;
   packed = s .packed;
   tagged = s .tagged;
 }
-after s (branch b) = branched b s (s .boxes)
-after s (closes e) = closed s (s .boxes)
-after s breakloop = s
-after s tag = record { sure = nothing; boxes = s .boxes; packed = s .packed; tagged = true }
+after s (Item.Branch b) = branched b s (s .boxes)
+after s (Item.Close e) = closed s (s .boxes)
+after s Item.Break = s
+after s Item.Tag = record { sure = nothing; boxes = s .boxes; packed = s .packed; tagged = true }
 
 -- ---- the verdict: accepted, or a refusal's number and place. The walk's place is the item's number, the count of
 -- items at the end.
@@ -214,7 +223,7 @@ atLine t accepted = accepted
 atLine t (refused n i) = refused n (lineOf t i)
 
 abbrev pub walked : Script → Verdict
-walked t = walk (kindsOf (replicate 32 unknown) (itemsOf t)) 0 begin (itemsOf t)
+walked t = walk (kindsOf (replicate 32 Known.Unknown) (itemsOf t)) 0 begin (itemsOf t)
 
 -- of a script of so many bytes
 unfoldable pub verdict : ℕ → Script → Verdict

@@ -7,16 +7,29 @@ use mathlib.Core.Bool.{Bool, true, false, not, _&&_, _||_, cond}
 use mathlib.Core.List.{List, [], _∷_}
 use lib.Dec.{eqb, leb}
 use lib.ListN.{length, getD, set, drop}
-use Rattle.rules.specs.Words.{Item, act, pack, opens, branch, closes, breakloop, tag, Script}
-use Rattle.rules.specs.Words.{Pack, pckStart, pckAdd, pckEnd, Head, if', loop, sweep, Close, endif, endloop}
-use Rattle.rules.specs.Words.{Sort, ifBox, loopBox, sweepBox, Known, unknown, known, wholeKind, realKind}
-use Rattle.rules.specs.Words.{Want, Give}
+use Rattle.table.specs.declared.Item.{Item}
+use Rattle.table.specs.declared.Item.the-variants as Item
+use Rattle.table.specs.declared.Script.{Script}
+use Rattle.table.specs.declared.Pack.{Pack}
+use Rattle.table.specs.declared.Pack.the-variants as Pack
+use Rattle.table.specs.declared.Head.{Head}
+use Rattle.table.specs.declared.Head.the-variants as Head
+use Rattle.table.specs.declared.Close.{Close}
+use Rattle.table.specs.declared.Close.the-variants as Close
+use Rattle.table.specs.declared.Sort.{Sort}
+use Rattle.table.specs.declared.Sort.the-variants as Sort
+use Rattle.table.specs.declared.Known.{Known}
+use Rattle.table.specs.declared.Known.the-variants as Known
+use Rattle.table.specs.declared.Kind.the-variants as Kind
+use Rattle.table.specs.declared.Want.{Want}
+use Rattle.table.specs.declared.Give.{Give}
 use Rattle.table.specs.Item.{isElse, isLoop, isSweep}
 use Rattle.table.specs.Uses.{Kinds, kindAt, Names, has, uses, gives, wrong, wrongGive, missing, lowest}
 use Rattle.table.specs.Shape.{slotAt, wantsOk}
 use Rattle.sets.specs.Names.{nothing, everything, both, either, outside, asks, put, namesOf}
 use Rattle.rules.specs.Check.{orElse, Box, State, anyBox, afterBox, Verdict, accepted, orGo, walk}
-use Rattle.rules.specs.Verdict.{Nothing, found}
+use Rattle.rules.specs.declared.Finding.the-variants as Finding
+use Rattle.rules.specs.Verdict.{found}
 pub use Rattle.rules.specs.declared.kinds.Sorted.{Sorted}
 pub use Rattle.rules.specs.declared.briefs.Step.{Step}
 pub use Rattle.rules.specs.declared.briefs.Step.the-variants as Step
@@ -32,9 +45,9 @@ pub use Rattle.rules.specs.declared.boxes.Out.{Out}
 -- ---- kinds: the set of the whole ones and that of the floats
 
 abbrev pub kindBy : Bool → Bool → Known
-kindBy true real = known wholeKind
-kindBy false true = known realKind
-kindBy false false = unknown
+kindBy true real = Known.Of Kind.Whole
+kindBy false true = Known.Of Kind.Real
+kindBy false false = Known.Unknown
 
 unfoldable pub kindsBy : Names → Names → Kinds
 kindsBy [] t = []
@@ -45,14 +58,14 @@ unfoldable pub kindsIn : Sorted → Kinds
 kindsIn k = kindsBy (namesOf (k .whole)) (namesOf (k .real))
 
 abbrev pub isWhole : Known → Bool
-isWhole unknown = false
-isWhole (known wholeKind) = true
-isWhole (known realKind) = false
+isWhole Known.Unknown = false
+isWhole (Known.Of Kind.Whole) = true
+isWhole (Known.Of Kind.Real) = false
 
 abbrev pub isFloat : Known → Bool
-isFloat unknown = false
-isFloat (known wholeKind) = false
-isFloat (known realKind) = true
+isFloat Known.Unknown = false
+isFloat (Known.Of Kind.Whole) = false
+isFloat (Known.Of Kind.Real) = true
 
 abbrev pub learnt : Kinds → ℕ → Known → Kinds
 learnt k n j = set k n (orElse (kindAt k n) j)
@@ -63,23 +76,23 @@ wrongBoth kind ws gs = wrong kind ws || wrongGive kind gs
 -- ---- an item in brief
 
 abbrev pub stepOf : Pack → Step
-stepOf pckStart = Step.Start
-stepOf (pckAdd v) = Step.Add
-stepOf pckEnd = Step.End
+stepOf Pack.Start = Step.Start
+stepOf (Pack.Add v) = Step.Add
+stepOf Pack.End = Step.End
 
 abbrev pub headForm : Head → Form
-headForm (if' c) = Form.Open ifBox
-headForm (loop c) = Form.Open loopBox
-headForm (sweep w) = cond (eqb (w .potential) (w .current)) Form.Twice (Form.Open sweepBox)
+headForm (Head.If c) = Form.Open Sort.If
+headForm (Head.Loop c) = Form.Open Sort.Loop
+headForm (Head.Sweep w) = cond (eqb (w .potential) (w .current)) Form.Twice (Form.Open Sort.Sweep)
 
 abbrev pub plainForm : Item → Form
-plainForm (act a) = Form.Act
-plainForm (pack p) = Form.Pack (stepOf p)
-plainForm (opens h) = headForm h
-plainForm (branch b) = Form.Branch (isElse b)
-plainForm (closes e) = Form.Close e
-plainForm breakloop = Form.Break
-plainForm tag = Form.Tag
+plainForm (Item.Act a) = Form.Act
+plainForm (Item.Pack p) = Form.Pack (stepOf p)
+plainForm (Item.Open h) = headForm h
+plainForm (Item.Branch b) = Form.Branch (isElse b)
+plainForm (Item.Close e) = Form.Close e
+plainForm Item.Break = Form.Break
+plainForm Item.Tag = Form.Tag
 
 abbrev pub formBy : Bool → Item → Form
 formBy wrongs x = cond wrongs Form.Wrong (plainForm x)
@@ -194,15 +207,15 @@ isTwice Form.Tag = false
 
 -- the sort of the box that is opened
 abbrev pub sortIn : Form → Sort
-sortIn Form.Wrong = ifBox
-sortIn Form.Act = ifBox
-sortIn (Form.Pack s) = ifBox
+sortIn Form.Wrong = Sort.If
+sortIn Form.Act = Sort.If
+sortIn (Form.Pack s) = Sort.If
 sortIn (Form.Open s) = s
-sortIn Form.Twice = sweepBox
-sortIn (Form.Branch e) = ifBox
-sortIn (Form.Close c) = ifBox
-sortIn Form.Break = ifBox
-sortIn Form.Tag = ifBox
+sortIn Form.Twice = Sort.Sweep
+sortIn (Form.Branch e) = Sort.If
+sortIn (Form.Close c) = Sort.If
+sortIn Form.Break = Sort.If
+sortIn Form.Tag = Sort.If
 
 -- ---- where the checker stands in a row: the boxes around its own are `bs`, which no code holds
 
@@ -271,8 +284,8 @@ markIn a h (Form.Pack s) = false
 markIn a h (Form.Open s) = false
 markIn a h Form.Twice = false
 markIn a h (Form.Branch e) = not (inIf a) || h .elseSeen
-markIn a h (Form.Close endif) = not (inIf a)
-markIn a h (Form.Close endloop) = not (inLoop a)
+markIn a h (Form.Close Close.EndIf) = not (inIf a)
+markIn a h (Form.Close Close.EndLoop) = not (inLoop a)
 markIn a h Form.Break = not (a .looped)
 markIn a h Form.Tag = false
 
@@ -430,7 +443,7 @@ pub record Went (t : Notes) (i : ℕ) (a : Around) (h : Held) (r : Out) : Type 0
   pub within : r .at ≤ t .count
   pub ahead : i ≤ r .at
   pub done : (k : Kinds) (xs : List Item) → Told k xs t → (bs : List Box) → Boxed a bs → a .depth ≡ 0
-      → r .finding ≡ Nothing → restOf k xs (r .at) (outState r bs) ≡ accepted
+      → r .finding ≡ Finding.Nothing → restOf k xs (r .at) (outState r bs) ≡ accepted
 
 -- the item checker has passed item i, and the box that it opens
 pub record Took (t : Notes) (i : ℕ) (a : Around) (h : Held) (r : Walk) : Type 0 where
@@ -438,5 +451,5 @@ pub record Took (t : Notes) (i : ℕ) (a : Around) (h : Held) (r : Walk) : Type 
       → comeTo k xs r (stateAfter (r .closed) a (holdsOf (r .held)) bs) ≡ restOf k xs i (stateOf a (holdsOf h) bs)
   pub within : r .at ≤ t .count
   pub ahead : i ≤ r .at
-  pub later : r .finding ≡ Nothing → i < r .at
+  pub later : r .finding ≡ Finding.Nothing → i < r .at
   pub inside : r .closed ≡ true → a .depth ≡ 0 → ⊥

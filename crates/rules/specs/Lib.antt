@@ -1,4 +1,3 @@
-pub mod Words
 pub mod Check
 pub mod Verdict
 pub mod Pairs

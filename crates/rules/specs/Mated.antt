@@ -6,7 +6,7 @@ use mathlib.Core.Bool.{Bool, true, false, _||_}
 use mathlib.Core.List.{List}
 use mathlib.Core.Option.{Option, none, some}
 use lib.ListN.{length}
-use Rattle.rules.specs.Words.{Item}
+use Rattle.table.specs.declared.Item.{Item}
 use Rattle.table.specs.Item.{isOpen, isBranch, isClose}
 use Rattle.mates.specs.Mates.{fitsTop, boxesAt, closeOf, itemAt}
 

@@ -8,9 +8,19 @@ use mathlib.Core.List.{List, [], _∷_, _++_}
 use lib.IntN.{pos}
 use lib.Ieee.{fin}
 use lib.ListN.{length, replicate}
-use Rattle.rules.specs.Words.{Value, whole, real, name, literal, equal, Item, act, pack, opens, closes, tag, Slot}
-use Rattle.rules.specs.Words.{Script}
-use Rattle.rules.specs.Words.{store, wait, cellOn, cellOff, pckStart, pckEnd, if', loop, sweep, endif, endloop}
+use Rattle.value.specs.declared.Value.{Value}
+use Rattle.value.specs.declared.Value.the-variants as Value
+use Rattle.table.specs.declared.Operand.the-variants as Operand
+use Rattle.value.specs.declared.Comparison.the-variants as Comparison
+use Rattle.table.specs.declared.Condition.{Condition}
+use Rattle.table.specs.declared.Item.{Item}
+use Rattle.table.specs.declared.Item.the-variants as Item
+use Rattle.table.specs.declared.Slot.{Slot}
+use Rattle.table.specs.declared.Script.{Script}
+use Rattle.table.specs.declared.Act.the-variants as Act
+use Rattle.table.specs.declared.Pack.the-variants as Pack
+use Rattle.table.specs.declared.Head.the-variants as Head
+use Rattle.table.specs.declared.Close.the-variants as Close
 use Rattle.table.specs.Shape.{noSlot}
 use Rattle.rules.specs.Check.{accepted, refused, verdict}
 
@@ -46,56 +56,79 @@ AllTold [] = Unit {0}
 AllTold (p ∷ ps) = Told p × AllTold ps
 
 abbrev float : Value
-float = real (fin false 0 (pos 0))
+float = Value.Real (fin false 0 (pos 0))
 
 abbrev waiting : Item
-waiting = act (wait (name 0))
+waiting = Item.Act (Act.Wait (Operand.Name 0))
+
+abbrev holding : Condition
+holding = record { left = Operand.Literal float; by = Comparison.Equal; right = Operand.Literal float }
 
 abbrev always : Item
-always = opens (if' (record { left = literal float; by = equal; right = literal float }))
+always = Item.Open (Head.If holding)
 
 abbrev looping : Item
-looping = opens (loop (record { left = literal float; by = equal; right = literal float }))
+looping = Item.Open (Head.Loop holding)
+
+abbrev endif : Item
+endif = Item.Close Close.EndIf
+
+abbrev endloop : Item
+endloop = Item.Close Close.EndLoop
 
 abbrev sweeping : ℕ → ℕ → Item
 sweeping v w =
-    opens (sweep (record {
+    Item.Open (Head.Sweep (record {
       potential = v;
       current = w;
-      begin = literal float;
-      end = literal float;
-      step = literal float;
-      rate = literal float;
+      begin = Operand.Literal float;
+      end = Operand.Literal float;
+      step = Operand.Literal float;
+      rate = Operand.Literal float;
     }))
 
 abbrev pub pairs : List Pair
 pairs =
     record {
       before = [];
-      good = act (store 0 float 0);
-      bad = act (store 0 (whole (pos 1)) 0);
+      good = Item.Act (Act.Store 0 float 0);
+      bad = Item.Act (Act.Store 0 (Value.Whole (pos 1)) 0);
       rest = waiting ∷ [];
       number = 19;
       line = 2;
     }
-    ∷ record { before = []; good = act (store 0 float 0); bad = act cellOn; rest = waiting ∷ []; number = 20; line = 2 }
-    ∷ record { before = always ∷ []; good = closes endif; bad = closes endloop; rest = []; number = 21; line = 2 }
+    ∷ record {
+      before = [];
+      good = Item.Act (Act.Store 0 float 0);
+      bad = Item.Act Act.CellOn;
+      rest = waiting ∷ [];
+      number = 20;
+      line = 2;
+    }
+    ∷ record { before = always ∷ []; good = endif; bad = endloop; rest = []; number = 21; line = 2 }
     ∷ record {
       before = replicate 8 always;
-      good = act cellOn;
+      good = Item.Act Act.CellOn;
       bad = always;
-      rest = replicate 8 (closes endif);
+      rest = replicate 8 endif;
       number = 22;
       line = 9;
     }
-    ∷ record { before = pack pckStart ∷ []; good = pack pckEnd; bad = pack pckStart; rest = []; number = 23; line = 2 }
-    ∷ record { before = tag ∷ []; good = act cellOff; bad = tag; rest = []; number = 24; line = 2 }
-    ∷ record { before = []; good = sweeping 0 1; bad = sweeping 0 0; rest = closes endloop ∷ []; number = 25; line = 1 }
+    ∷ record {
+      before = Item.Pack Pack.Start ∷ [];
+      good = Item.Pack Pack.End;
+      bad = Item.Pack Pack.Start;
+      rest = [];
+      number = 23;
+      line = 2;
+    }
+    ∷ record { before = Item.Tag ∷ []; good = Item.Act Act.CellOff; bad = Item.Tag; rest = []; number = 24; line = 2 }
+    ∷ record { before = []; good = sweeping 0 1; bad = sweeping 0 0; rest = endloop ∷ []; number = 25; line = 1 }
     ∷ record {
       before = sweeping 0 1 ∷ [];
       good = looping;
       bad = sweeping 2 3;
-      rest = closes endloop ∷ closes endloop ∷ [];
+      rest = endloop ∷ endloop ∷ [];
       number = 26;
       line = 2;
     }

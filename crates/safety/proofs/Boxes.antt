@@ -12,8 +12,7 @@ use borrow.Author.Tests.{leb-false, ne-eqb}
 use Rattle.table.specs.declared.Head.{Head}
 use Rattle.table.specs.declared.Close.{Close}
 use Rattle.table.specs.declared.Item.{Item}
-use Rattle.table.specs.declared.Item.the-variants.{Act as act, Pack as pack, Open as opens, Branch as branch}
-use Rattle.table.specs.declared.Item.the-variants.{Close as closes, Break as breakloop, Tag as tag}
+use Rattle.table.specs.declared.Item.the-variants as Item
 use Rattle.table.specs.Item.{sortOf, isOpen, isClose, fits}
 use Rattle.table.specs.Uses.{Kinds, Names}
 use Rattle.mates.specs.declared.Open.{Open}
@@ -42,7 +41,7 @@ pub record Headed (items : List Item) (i : ℕ) (st : List Open) (xs : List Item
   pub head : Head
   pub kinds : Kinds
   pub body : List Item
-  pub reach : Reach items (b .at) (outer b bs tg) kinds (opens head ∷ body)
+  pub reach : Reach items (b .at) (outer b bs tg) kinds (Item.Open head ∷ body)
   pub sort : b .sort ≡ sortOf head
   pub mate : closeOf items (b .at) ≡ closeFrom (b .at) i st xs
 
@@ -76,15 +75,15 @@ module _ (i : ℕ) (su : Names) (p tg : Bool) where
 
   pub erase-after : (l : List Box) (x : Item) → misplaced x (plains l) ≡ false
       → scan i x (erase l) ≡ erase (boxesAfter l x)
-  erase-after l (act a) h = refl
-  erase-after l (pack q) h = refl
-  erase-after l (opens e) h = refl
-  erase-after [] (branch c) h = refl
-  erase-after (b ∷ bs) (branch c) h = refl
-  erase-after [] (closes e) h = refl
-  erase-after (b ∷ bs) (closes e) h = rw (closes-fits e b bs h)
-  erase-after l breakloop h = refl
-  erase-after l tag h = refl
+  erase-after l (Item.Act a) h = refl
+  erase-after l (Item.Pack q) h = refl
+  erase-after l (Item.Open e) h = refl
+  erase-after [] (Item.Branch c) h = refl
+  erase-after (b ∷ bs) (Item.Branch c) h = refl
+  erase-after [] (Item.Close e) h = refl
+  erase-after (b ∷ bs) (Item.Close e) h = rw (closes-fits e b bs h)
+  erase-after l Item.Break h = refl
+  erase-after l Item.Tag h = refl
 
   below-up : (l : List Box) → Below i l → Below (suc i) l
   below-up [] h = tt
@@ -95,27 +94,27 @@ module _ (i : ℕ) (su : Names) (p tg : Bool) where
   below-down b (c ∷ cs) u v = (omega (arith, u, v .0), v .1)
 
   pub below-after : (l : List Box) (x : Item) → Below i l → Below (suc i) (boxesAfter l x)
-  below-after l (act a) h = below-up l h
-  below-after l (pack q) h = below-up l h
-  below-after l (opens e) h = (omega arith, h)
-  below-after [] (branch c) h = tt
-  below-after (b ∷ bs) (branch c) h = below-up (b ∷ bs) h
-  below-after [] (closes e) h = tt
-  below-after (b ∷ bs) (closes e) h = below-down b bs (h .0) (h .1)
-  below-after l breakloop h = below-up l h
-  below-after l tag h = below-up l h
+  below-after l (Item.Act a) h = below-up l h
+  below-after l (Item.Pack q) h = below-up l h
+  below-after l (Item.Open e) h = (omega arith, h)
+  below-after [] (Item.Branch c) h = tt
+  below-after (b ∷ bs) (Item.Branch c) h = below-up (b ∷ bs) h
+  below-after [] (Item.Close e) h = tt
+  below-after (b ∷ bs) (Item.Close e) h = below-down b bs (h .0) (h .1)
+  below-after l Item.Break h = below-up l h
+  below-after l Item.Tag h = below-up l h
 
   pub few-after : (l : List Box) (x : Item) → (isOpen x && leb 8 (length l)) ≡ false → length l ≤ 8
       → length (boxesAfter l x) ≤ 8
-  few-after l (act a) e h = h
-  few-after l (pack q) e h = h
-  few-after l (opens d) e h = omega (arith, leb-false 8 (length l) e)
-  few-after [] (branch c) e h = h
-  few-after (b ∷ bs) (branch c) e h = h
-  few-after [] (closes c) e h = h
-  few-after (b ∷ bs) (closes c) e h = omega arith
-  few-after l breakloop e h = h
-  few-after l tag e h = h
+  few-after l (Item.Act a) e h = h
+  few-after l (Item.Pack q) e h = h
+  few-after l (Item.Open d) e h = omega (arith, leb-false 8 (length l) e)
+  few-after [] (Item.Branch c) e h = h
+  few-after (b ∷ bs) (Item.Branch c) e h = h
+  few-after [] (Item.Close c) e h = h
+  few-after (b ∷ bs) (Item.Close c) e h = omega arith
+  few-after l Item.Break e h = h
+  few-after l Item.Tag e h = h
 
 -- the boxes below n keep their closing mark ahead of an item that closes none of them
 heads-map : (items : List Item) (i n : ℕ) (st : List Open) (x : Item) (xs : List Item) (tg : Bool) (l : List Box)
@@ -140,8 +139,8 @@ heads-map items i n st x xs tg (b ∷ bs) w f h = (
 
 -- a closing mark of the box c closes no box below it
 not-below : (e : Close) (c : Box) (bs : List Box) (p : ℕ) → p < c .at
-    → (isClose (closes e) && belongs p (closes e) (erase (c ∷ bs))) ≡ false
-not-below e c bs p h = go (fits (closes e) (c .sort))
+    → (isClose (Item.Close e) && belongs p (Item.Close e) (erase (c ∷ bs))) ≡ false
+not-below e c bs p h = go (fits (Item.Close e) (c .sort))
   where
     go : (f : Bool) → (f && eqb (c .at) p) ≡ false
     go true = ne-eqb (c .at) p (λ q. omega arith)
@@ -153,22 +152,22 @@ module _ (items : List Item) {i : ℕ} {su : Names} {p tg : Bool} {k k₀ : Kind
       → drop i items ≡ x ∷ xs → boxesAt items i ≡ erase l → Below i l → Heads items i (erase l) (x ∷ xs) tg l
       → let s : Placed =
       after i (state su l p tg) x in Heads items (suc i) (scan i x (erase l)) xs (s .tagged) (s .boxes)
-  heads-after (act a) l r c t e w h = heads-map items i i (erase l) (act a) xs tg l w (λ q u. refl) h
-  heads-after (pack q) l r c t e w h = heads-map items i i (erase l) (pack q) xs tg l w (λ q u. refl) h
-  heads-after (opens d) l r c t e w h = (
+  heads-after (Item.Act a) l r c t e w h = heads-map items i i (erase l) (Item.Act a) xs tg l w (λ q u. refl) h
+  heads-after (Item.Pack q) l r c t e w h = heads-map items i i (erase l) (Item.Pack q) xs tg l w (λ q u. refl) h
+  heads-after (Item.Open d) l r c t e w h = (
     record {
       head = d;
       kinds = k;
       body = xs;
-      reach = subst (λ (q : Bool). Reach items i (state su l q tg) k (opens d ∷ xs)) (c .packed) r;
+      reach = subst (λ (q : Bool). Reach items i (state su l q tg) k (Item.Open d ∷ xs)) (c .packed) r;
       sort = refl;
       mate = rw (e, t);
     },
-    heads-map items i i (erase l) (opens d) xs tg l w (λ q u. refl) h,
+    heads-map items i i (erase l) (Item.Open d) xs tg l w (λ q u. refl) h,
   )
-  heads-after (branch d) [] r c t e w h = tt
-  heads-after (branch d) (b ∷ bs) r c t e w h =
-      let g = heads-map items i i (erase (b ∷ bs)) (branch d) xs tg (b ∷ bs) w (λ q u. refl) h in (
+  heads-after (Item.Branch d) [] r c t e w h = tt
+  heads-after (Item.Branch d) (b ∷ bs) r c t e w h =
+      let g = heads-map items i i (erase (b ∷ bs)) (Item.Branch d) xs tg (b ∷ bs) w (λ q u. refl) h in (
         record {
           head = g .0 .head;
           kinds = g .0 .kinds;
@@ -179,9 +178,9 @@ module _ (items : List Item) {i : ℕ} {su : Names} {p tg : Bool} {k k₀ : Kind
         },
         g .1,
       )
-  heads-after (closes d) [] r c t e w h = tt
-  heads-after (closes d) (b ∷ bs) r c t e w h =
-      heads-map items i (b .at) (erase (b ∷ bs)) (closes d) xs tg bs (w .1) (not-below d b bs) (h .1)
-  heads-after breakloop l r c t e w h = heads-map items i i (erase l) breakloop xs tg l w (λ q u. refl) h
-  heads-after tag [] r c t e w h = tt
-  heads-after tag (b ∷ bs) r c t e w h = no (or-r tg true (c .tagged))
+  heads-after (Item.Close d) [] r c t e w h = tt
+  heads-after (Item.Close d) (b ∷ bs) r c t e w h =
+      heads-map items i (b .at) (erase (b ∷ bs)) (Item.Close d) xs tg bs (w .1) (not-below d b bs) (h .1)
+  heads-after Item.Break l r c t e w h = heads-map items i i (erase l) Item.Break xs tg l w (λ q u. refl) h
+  heads-after Item.Tag [] r c t e w h = tt
+  heads-after Item.Tag (b ∷ bs) r c t e w h = no (or-r tg true (c .tagged))

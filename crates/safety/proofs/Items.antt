@@ -7,34 +7,31 @@ use mathlib.Core.List.{List, [], _∷_}
 use lib.Ieee.{Float}
 use lib.Dec.{ltb}
 use lib.ListN.{set}
+use borrow.Author.Tests.{not-false, not-true}
 use Rattle.value.specs.declared.Value.{Value}
-use Rattle.value.specs.declared.Value.the-variants.{Real as real}
+use Rattle.value.specs.declared.Value.the-variants as Value
 use Rattle.value.specs.declared.Calculated.{Calculated}
-use Rattle.value.specs.declared.Calculated.the-variants.{Value as got, ByZero as byZero, NotFinite as notFinite}
+use Rattle.value.specs.declared.Calculated.the-variants as Calculated
 use Rattle.value.specs.Arithmetic.{finite, checked, calculated}
-use Rattle.table.specs.declared.Operand.the-variants.{Name as name, Literal as literal}
+use Rattle.table.specs.declared.Operand.the-variants as Operand
 use Rattle.table.specs.declared.Condition.{Condition}
 use Rattle.table.specs.declared.Sweep.{Sweep}
 use Rattle.table.specs.declared.Act.{Act}
-use Rattle.table.specs.declared.Act.the-variants.{Var as var, Store as store, Copy as copy, Calc as calc, Meas as meas}
-use Rattle.table.specs.declared.Act.the-variants.{TimerGet as timerGet, SendString as sendString, Wait as wait}
-use Rattle.table.specs.declared.Act.the-variants.{SetE as setE, SetMode as setMode, TimerStart as timerStart}
-use Rattle.table.specs.declared.Act.the-variants.{CellOn as cellOn, CellOff as cellOff, Abort as abort}
+use Rattle.table.specs.declared.Act.the-variants as Act
 use Rattle.table.specs.declared.Pack.{Pack}
-use Rattle.table.specs.declared.Pack.the-variants.{Start as pckStart, End as pckEnd, Add as pckAdd}
+use Rattle.table.specs.declared.Pack.the-variants as Pack
 use Rattle.table.specs.declared.Head.{Head}
-use Rattle.table.specs.declared.Head.the-variants.{If as if', Loop as loop, Sweep as sweep}
+use Rattle.table.specs.declared.Head.the-variants as Head
 use Rattle.table.specs.declared.Branch.{Branch}
 use Rattle.table.specs.declared.Close.{Close}
-use Rattle.table.specs.declared.Close.the-variants.{EndIf as endif, EndLoop as endloop}
+use Rattle.table.specs.declared.Close.the-variants as Close
 use Rattle.table.specs.declared.Item.{Item}
-use Rattle.table.specs.declared.Item.the-variants.{Act as act, Pack as pack, Open as opens, Branch as branch}
-use Rattle.table.specs.declared.Item.the-variants.{Close as closes, Break as breakloop, Tag as tag}
+use Rattle.table.specs.declared.Item.the-variants as Item
 use Rattle.state.specs.declared.LoopSort.{LoopSort}
-use Rattle.state.specs.declared.LoopSort.the-variants.{Loop as aLoop, Sweep as aSweep}
-use Rattle.table.specs.declared.Kind.the-variants.{Real as realKind}
-use Rattle.table.specs.declared.Known.the-variants.{Of as known}
-use Rattle.table.specs.declared.Give.the-variants.{Float as float}
+use Rattle.state.specs.declared.LoopSort.the-variants as LoopSort
+use Rattle.table.specs.declared.Kind.the-variants as Kind
+use Rattle.table.specs.declared.Known.the-variants as Known
+use Rattle.table.specs.declared.Give.the-variants as Give
 use Rattle.table.specs.Item.{sortOf, isLoop, isSweep, opensA}
 use Rattle.table.specs.Uses.{actGives, headGives, kindOf, differ, Kinds, kindAt, wrongGive, Names, has, gone}
 use Rattle.table.specs.Shape.{givesOk}
@@ -42,17 +39,16 @@ use Rattle.mates.specs.Mates.{itemAt}
 use Rattle.rules.proofs.Placed.{Box}
 use Rattle.sets.specs.Names.{put}
 use Rattle.state.specs.declared.Cell.{Cell}
-use Rattle.state.specs.declared.Cell.the-variants.{Holds as held}
+use Rattle.state.specs.declared.Cell.the-variants as Cell
 use Rattle.state.specs.declared.Offer.{Offer}
-use Rattle.state.specs.declared.Offer.the-variants.{Nothing as nothing, Float as oneFloat, Point as onePoint}
-use Rattle.state.specs.declared.Offer.the-variants.{Done as done}
+use Rattle.state.specs.declared.Offer.the-variants as Offer
 use Rattle.state.specs.State.{Vars, cellAt, isWritten, cellKind, cellValue, cellType, valueOf, holds, da, ba, eb}
 use Rattle.state.specs.State.{code0028, code0010, Run, leaves, Answer, running, waiting, finished, stopped, fault}
 use Rattle.state.specs.State.{refuse, Step, goto, keep, unskip, said, stopsBy, reading, cellOk}
 use Rattle.machine.specs.Machine.{unwind, outside, next, kept, runAct, runPack, Chosen, otherwise, chosen, enter, leave}
 use Rattle.machine.specs.Machine.{runPoint, runHead, runBranch, runClose, runBreak, run}
 use Rattle.safety.specs.Safety.{isCode}
-use Rattle.safety.proofs.Laws.{no, or-l, or-r, and-l, and-r, not-f, not-t, both-r, not-nothing}
+use Rattle.safety.proofs.Laws.{no, or-l, or-r, and-l, and-r, both-r, not-nothing}
 use Rattle.safety.proofs.Walk.{textKinds, Accepted, more, closes-fits, branch-fits, clean, item-ok, gives-ok}
 use Rattle.safety.proofs.Walk.{like-below, float-below}
 use Rattle.safety.proofs.Boxes.{erase, Headed}
@@ -89,7 +85,7 @@ module _ {names size : ℕ} {items : List Item} (ok : Accepted names size items)
 
     -- ---- items that open no box
 
-    module _ (a : Act) {xs : List Item} (h : Here ok m su l p tg k (act a ∷ xs)) where
+    module _ (a : Act) {xs : List Item} (h : Here ok m su l p tg k (Item.Act a ∷ xs)) where
       wrote : (v : ℕ) (w : Cell) → put su (actGives a) ≡ set su v true → v < 32
           → isWritten w ≡ true → cellOk w ≡ true → differ (kindAt (textKinds items) v) (cellKind w) ≡ false
           → Good ok (next (keep m (set (m .vars) v w)))
@@ -99,15 +95,15 @@ module _ {names size : ℕ} {items : List Item} (ok : Accepted names size items)
           (all-cover-up (m .vars) v w l e (h .covers)) (set-vars (m .vars) v w (h .vars) f d) (h .living)
 
       kept-fine : (v c : ℕ) (g : Calculated) → put su (actGives a) ≡ set su v true → v < 32
-          → ((u : Value) → g ≡ got u
-          → (finite u ≡ true) × (differ (kindAt (textKinds items) v) (known (kindOf u)) ≡ false))
+          → ((u : Value) → g ≡ Calculated.Value u
+          → (finite u ≡ true) × (differ (kindAt (textKinds items) v) (Known.Of (kindOf u)) ≡ false))
           → FineStep (kept m v c g)
-      kept-fine v c (got u) q b f = wrote v (held u c) q b refl ((f u refl) .0) ((f u refl) .1)
-      kept-fine v c byZero q b f = stops h code0028 refl
-      kept-fine v c notFinite q b f = stops h code0010 refl
+      kept-fine v c (Calculated.Value u) q b f = wrote v (Cell.Holds u c) q b refl ((f u refl) .0) ((f u refl) .1)
+      kept-fine v c Calculated.ByZero q b f = stops h code0028 refl
+      kept-fine v c Calculated.NotFinite q b f = stops h code0010 refl
 
       float-fine : (v c : ℕ) (x : Float) → put su (actGives a) ≡ set su v true → v < 32
-          → differ (kindAt (textKinds items) v) (known realKind) ≡ false → FineStep (kept m v c (checked x))
+          → differ (kindAt (textKinds items) v) (Known.Of Kind.Real) ≡ false → FineStep (kept m v c (checked x))
       float-fine v c x q b d = kept-fine v c (checked x) q b (λ u e. let r = checked-got x u e in (r .0, rw (r .1) d))
 
       stays : put su (actGives a) ≡ su → Good ok (next m)
@@ -116,52 +112,55 @@ module _ {names size : ℕ} {items : List Item} (ok : Accepted names size items)
           (h .living)
 
       written-ok : givesOk names (actGives a) ≡ true
-      written-ok = gives-ok ok (act a) (item-ok ok (h .reach))
+      written-ok = gives-ok ok (Item.Act a) (item-ok ok (h .reach))
 
-    act-fine : (a : Act) {xs : List Item} (o : Offer) → Here ok m su l p tg k (act a ∷ xs) → FineStep (runAct m a o)
-    act-fine (var v) o h = stays (var v) h refl
-    act-fine (store v x c) o h =
-        let g = written-ok (store v x c) h in
-        wrote (store v x c) h v (held x c) refl (like-below ok v (literal x) g) refl (and-r (ltb v names) (finite x) g)
+    act-fine : (a : Act) {xs : List Item} (o : Offer) → Here ok m su l p tg k (Item.Act a ∷ xs)
+        → FineStep (runAct m a o)
+    act-fine (Act.Var v) o h = stays (Act.Var v) h refl
+    act-fine (Act.Store v x c) o h =
+        let g = written-ok (Act.Store v x c) h in
+        wrote (Act.Store v x c) h v (Cell.Holds x c) refl (like-below ok v (Operand.Literal x) g) refl
+        (and-r (ltb v names) (finite x) g)
         ((clean ok (h .reach)) .gifts)
-    act-fine (copy a b) o h =
-        let s : has su a ≡ true = not-f (has su a) ((clean ok (h .reach)) .there) in
-        wrote (copy a b) h b (cellAt (m .vars) a) refl (like-below ok b (name a) (written-ok (copy a b) h))
+    act-fine (Act.Copy a b) o h =
+        let s : has su a ≡ true = not-false (has su a) ((clean ok (h .reach)) .there) in
+        wrote (Act.Copy a b) h b (cellAt (m .vars) a) refl
+        (like-below ok b (Operand.Name a) (written-ok (Act.Copy a b) h))
         (h .cover a s) (h .vars .fine a)
         (rw (kind-now (knows ok h) a s) ((clean ok (h .reach)) .gifts))
-    act-fine (calc f v x) o h =
+    act-fine (Act.Calc f v x) o h =
         let s : has su v ≡ true =
-        not-f (has su v) (or-l (not (has su v)) (gone (has su) x) ((clean ok (h .reach)) .there)) in
-        kept-fine (calc f v x) h v (cellType (cellAt (m .vars) v))
+        not-false (has su v) (or-l (not (has su v)) (gone (has su) x) ((clean ok (h .reach)) .there)) in
+        kept-fine (Act.Calc f v x) h v (cellType (cellAt (m .vars) v))
         (calculated f (cellValue (cellAt (m .vars) v)) (valueOf (m .vars) x)) refl
-        (like-below ok v (name v) (written-ok (calc f v x) h))
+        (like-below ok v (Operand.Name v) (written-ok (Act.Calc f v x) h))
         (λ u e. let r = result-got f (cellValue (cellAt (m .vars) v)) (valueOf (m .vars) x) u e in
         (r .0, rw (r .1, ← (cell-kind (cellAt (m .vars) v) (h .cover v s))) (h .vars .agree v)))
-    act-fine (meas f v c) o h =
-        float-fine (meas f v c) h v c (reading o) refl (float-below ok v [] (written-ok (meas f v c) h))
+    act-fine (Act.Meas f v c) o h =
+        float-fine (Act.Meas f v c) h v c (reading o) refl (float-below ok v [] (written-ok (Act.Meas f v c) h))
         ((clean ok (h .reach)) .gifts)
-    act-fine (timerGet v) o h =
-        float-fine (timerGet v) h v eb (reading o) refl (float-below ok v [] (written-ok (timerGet v) h))
+    act-fine (Act.TimerGet v) o h =
+        float-fine (Act.TimerGet v) h v eb (reading o) refl (float-below ok v [] (written-ok (Act.TimerGet v) h))
         ((clean ok (h .reach)) .gifts)
-    act-fine (sendString s) o h = stays (sendString s) h refl
-    act-fine (wait f) o h = stays (wait f) h refl
-    act-fine (setE f) o h = stays (setE f) h refl
-    act-fine (setMode n) o h = stays (setMode n) h refl
-    act-fine timerStart o h = stays timerStart h refl
-    act-fine cellOn o h = stays cellOn h refl
-    act-fine cellOff o h = stays cellOff h refl
-    act-fine abort o h =
+    act-fine (Act.SendString s) o h = stays (Act.SendString s) h refl
+    act-fine (Act.Wait f) o h = stays (Act.Wait f) h refl
+    act-fine (Act.SetE f) o h = stays (Act.SetE f) h refl
+    act-fine (Act.SetMode n) o h = stays (Act.SetMode n) h refl
+    act-fine Act.TimerStart o h = stays Act.TimerStart h refl
+    act-fine Act.CellOn o h = stays Act.CellOn h refl
+    act-fine Act.CellOff o h = stays Act.CellOff h refl
+    act-fine Act.Abort o h =
         land ok (more (h .reach)) (inl (not-again ok h refl)) (h .packed) (h .cover) (h .covers) (h .vars) (h .living)
 
-    pack-fine : (q : Pack) {xs : List Item} → Here ok m su l p tg k (pack q ∷ xs) → FineStep (runPack m q)
-    pack-fine pckStart h =
+    pack-fine : (q : Pack) {xs : List Item} → Here ok m su l p tg k (Item.Pack q ∷ xs) → FineStep (runPack m q)
+    pack-fine Pack.Start h =
         land ok (more (h .reach)) (inl (not-again ok h refl)) refl (h .cover) (h .covers) (h .vars) (h .living)
-    pack-fine pckEnd h =
+    pack-fine Pack.End h =
         land ok (more (h .reach)) (inl (not-again ok h refl)) refl (h .cover) (h .covers) (h .vars) (h .living)
-    pack-fine (pckAdd v) h =
+    pack-fine (Pack.Add v) h =
         land ok (more (h .reach)) (inl (not-again ok h refl)) (h .packed) (h .cover) (h .covers) (h .vars) (h .living)
 
-    pub tag-fine : {xs : List Item} → Here ok m su l p tg k (tag ∷ xs) → Good ok (next m)
+    pub tag-fine : {xs : List Item} → Here ok m su l p tg k (Item.Tag ∷ xs) → Good ok (next m)
     tag-fine h =
         land ok (more (h .reach)) (inl (not-again ok h refl)) (h .packed) (λ n e. not-nothing n e) (h .covers)
         (h .vars) (h .living)
@@ -169,19 +168,19 @@ module _ {names size : ℕ} {items : List Item} (ok : Accepted names size items)
     -- ---- opening marks
 
     -- a box is entered, with the names vs
-    entered-fine : (d : Head) {xs : List Item} → Here ok m su l p tg k (opens d ∷ xs) → (vs : Vars)
+    entered-fine : (d : Head) {xs : List Item} → Here ok m su l p tg k (Item.Open d ∷ xs) → (vs : Vars)
         → VarsOk (textKinds items) vs → Covers (put su (headGives d)) vs → Covers su vs → AllCover l vs
         → (ps : List ℕ) → ps ≡ positions l → Good ok (goto (keep m vs) (suc (m .at)) (m .at ∷ ps))
     entered-fine d h vs v c e a ps q = land ok (more (h .reach)) (inl (rw q)) (h .packed) c (e, a) v (h .living)
 
-    leave-fine : (d : Head) {xs : List Item} (o : LoopSort) → Here ok m su l p tg k (opens d ∷ xs)
+    leave-fine : (d : Head) {xs : List Item} (o : LoopSort) → Here ok m su l p tg k (Item.Open d ∷ xs)
         → isLoop (sortOf d) ≡ true → FineStep (leave items o m)
     leave-fine d o h q =
         let f = past-close ok (close-head ok (h .reach)) in
         land ok (f .reach) (inl (outside-is ok h)) (h .packed ∙ (clean ok (h .reach)) .packed)
         (λ n e. h .cover n (f .loops q n e)) (h .covers) (h .vars) (h .living)
 
-    picks-fine : {c : Condition} {xs : List Item} → Here ok m su l p tg k (opens (if' c) ∷ xs) → {d : Chosen}
+    picks-fine : {c : Condition} {xs : List Item} → Here ok m su l p tg k (Item.Open (Head.If c) ∷ xs) → {d : Chosen}
         → Picks items (m .at) su l d → FineStep (chosen m d)
     picks-fine h (goes r e f) =
         land ok r (inl (rw (e, not-again ok h refl))) (h .packed ∙ (clean ok (h .reach)) .packed) (h .cover)
@@ -190,42 +189,43 @@ module _ {names size : ℕ} {items : List Item} (ok : Accepted names size items)
         land ok r (inl (not-again ok h refl)) (h .packed ∙ (clean ok (h .reach)) .packed) (λ n q. h .cover n (e n q))
         (h .covers) (h .vars) (h .living)
 
-    if-fine : (c : Condition) {xs : List Item} (o : Offer) → Here ok m su l p tg k (opens (if' c) ∷ xs)
-        → FineStep (runHead items m (if' c) o)
+    if-fine : (c : Condition) {xs : List Item} (o : Offer) → Here ok m su l p tg k (Item.Open (Head.If c) ∷ xs)
+        → FineStep (runHead items m (Head.If c) o)
     if-fine c o h = go (holds (m .vars) c)
       where
         go : (b : Bool)
             → FineStep (cond b (said [] (goto m (suc (m .at)) (m .at ∷ m .boxes))) (chosen m (otherwise items m)))
         go true =
-            entered-fine (if' c) h (m .vars) (h .vars) (h .cover) (h .cover) (h .covers) (m .boxes)
+            entered-fine (Head.If c) h (m .vars) (h .vars) (h .cover) (h .cover) (h .covers) (m .boxes)
             (not-again ok h refl)
         go false = picks-fine h (mates-good ok h)
 
-    loop-fine : (c : Condition) {xs : List Item} (o : Offer) → Here ok m su l p tg k (opens (loop c) ∷ xs)
-        → FineStep (runHead items m (loop c) o)
+    loop-fine : (c : Condition) {xs : List Item} (o : Offer) → Here ok m su l p tg k (Item.Open (Head.Loop c) ∷ xs)
+        → FineStep (runHead items m (Head.Loop c) o)
     loop-fine c o h = go (holds (m .vars) c)
       where
-        go : (b : Bool) → FineStep (cond b (enter aLoop m) (leave items aLoop m))
+        go : (b : Bool) → FineStep (cond b (enter LoopSort.Loop m) (leave items LoopSort.Loop m))
         go true =
-            entered-fine (loop c) h (m .vars) (h .vars) (h .cover) (h .cover) (h .covers) (outside (m .at) (m .boxes))
+            entered-fine (Head.Loop c) h (m .vars) (h .vars) (h .cover) (h .cover) (h .covers)
+            (outside (m .at) (m .boxes))
             (outside-is ok h)
-        go false = leave-fine (loop c) aLoop h refl
+        go false = leave-fine (Head.Loop c) LoopSort.Loop h refl
 
-    point-fine : (w : Sweep) {xs : List Item} (x y : Float) → Here ok m su l p tg k (opens (sweep w) ∷ xs)
+    point-fine : (w : Sweep) {xs : List Item} (x y : Float) → Here ok m su l p tg k (Item.Open (Head.Sweep w) ∷ xs)
         → FineStep (runPoint m w x y)
-    point-fine w x y h = go (finite (real x)) (finite (real y)) refl refl
+    point-fine w x y h = go (finite (Value.Real x)) (finite (Value.Real y)) refl refl
       where
-        g : givesOk names (float (w .potential) ∷ float (w .current) ∷ []) ≡ true
-        g = gives-ok ok (opens (sweep w)) (item-ok ok (h .reach))
+        g : givesOk names (Give.Float (w .potential) ∷ Give.Float (w .current) ∷ []) ≡ true
+        g = gives-ok ok (Item.Open (Head.Sweep w)) (item-ok ok (h .reach))
 
-        d : wrongGive (kindAt (textKinds items)) (float (w .potential) ∷ float (w .current) ∷ []) ≡ false
+        d : wrongGive (kindAt (textKinds items)) (Give.Float (w .potential) ∷ Give.Float (w .current) ∷ []) ≡ false
         d = (clean ok (h .reach)) .gifts
 
         w₁ : Cell
-        w₁ = held (real x) da
+        w₁ = Cell.Holds (Value.Real x) da
 
         w₂ : Cell
-        w₂ = held (real y) ba
+        w₂ = Cell.Holds (Value.Real y) ba
 
         v₁ : Vars
         v₁ = set (m .vars) (w .potential) w₁
@@ -234,22 +234,22 @@ module _ {names size : ℕ} {items : List Item} (ok : Accepted names size items)
         v₂ = set v₁ (w .current) w₂
 
         b₁ : w .potential < 32
-        b₁ = float-below ok (w .potential) (float (w .current) ∷ []) g
+        b₁ = float-below ok (w .potential) (Give.Float (w .current) ∷ []) g
 
         b₂ : w .current < 32
         b₂ = float-below ok (w .current) [] (and-l (ltb (w .current) names) (ltb (w .potential) names) g)
 
-        d₁ : differ (kindAt (textKinds items) (w .potential)) (known realKind) ≡ false
-        d₁ = or-r (differ (kindAt (textKinds items) (w .current)) (known realKind)) _ d
+        d₁ : differ (kindAt (textKinds items) (w .potential)) (Known.Of Kind.Real) ≡ false
+        d₁ = or-r (differ (kindAt (textKinds items) (w .current)) (Known.Of Kind.Real)) _ d
 
-        d₂ : differ (kindAt (textKinds items) (w .current)) (known realKind) ≡ false
+        d₂ : differ (kindAt (textKinds items) (w .current)) (Known.Of Kind.Real) ≡ false
         d₂ = or-l _ _ d
 
-        go : (a b : Bool) → finite (real x) ≡ a → finite (real y) ≡ b
-            → FineStep (cond (a && b) (enter aSweep (keep m v₂)) (stopsBy code0010 m))
+        go : (a b : Bool) → finite (Value.Real x) ≡ a → finite (Value.Real y) ≡ b
+            → FineStep (cond (a && b) (enter LoopSort.Sweep (keep m v₂)) (stopsBy code0010 m))
         go true true e f =
             let s₁ = set-vars (m .vars) (w .potential) w₁ (h .vars) e d₁ in
-            entered-fine (sweep w) h v₂ (set-vars v₁ (w .current) w₂ s₁ f d₂)
+            entered-fine (Head.Sweep w) h v₂ (set-vars v₁ (w .current) w₂ s₁ f d₂)
             (cover-set v₁ (w .current) w₂ (set su (w .potential) true) (s₁ .len) b₂ refl
             (cover-set (m .vars) (w .potential) w₁ su (h .vars .len) b₁ refl (h .cover)))
             (λ n q. written-up v₁ (w .current) w₂ n refl (written-up (m .vars) (w .potential) w₁ n refl (h .cover n q)))
@@ -258,20 +258,20 @@ module _ {names size : ℕ} {items : List Item} (ok : Accepted names size items)
         go true false e f = stops h code0010 refl
         go false b e f = stops h code0010 refl
 
-    head-fine : (d : Head) {xs : List Item} (o : Offer) → Here ok m su l p tg k (opens d ∷ xs)
+    head-fine : (d : Head) {xs : List Item} (o : Offer) → Here ok m su l p tg k (Item.Open d ∷ xs)
         → FineStep (runHead items m d o)
-    head-fine (if' c) o h = if-fine c o h
-    head-fine (loop c) o h = loop-fine c o h
-    head-fine (sweep w) nothing h = leave-fine (sweep w) aSweep h refl
-    head-fine (sweep w) (oneFloat x) h = leave-fine (sweep w) aSweep h refl
-    head-fine (sweep w) (onePoint q) h = point-fine w (q .potential) (q .current) h
-    head-fine (sweep w) done h = leave-fine (sweep w) aSweep h refl
+    head-fine (Head.If c) o h = if-fine c o h
+    head-fine (Head.Loop c) o h = loop-fine c o h
+    head-fine (Head.Sweep w) Offer.Nothing h = leave-fine (Head.Sweep w) LoopSort.Sweep h refl
+    head-fine (Head.Sweep w) (Offer.Float x) h = leave-fine (Head.Sweep w) LoopSort.Sweep h refl
+    head-fine (Head.Sweep w) (Offer.Point q) h = point-fine w (q .potential) (q .current) h
+    head-fine (Head.Sweep w) Offer.Done h = leave-fine (Head.Sweep w) LoopSort.Sweep h refl
 
-    break-fine : {xs : List Item} → Here ok m su l p tg k (breakloop ∷ xs)
+    break-fine : {xs : List Item} → Here ok m su l p tg k (Item.Break ∷ xs)
         → FineStep (runBreak items m (unwind items (m .boxes)))
     break-fine {xs} h =
         let r = innermost-loop ok h in
-        let f = past-close ok (find-close ok (breakloop ∷ xs) (h .reach) (r .under)) in
+        let f = past-close ok (find-close ok (Item.Break ∷ xs) (h .reach) (r .under)) in
         let v = cover-under (m .vars) (r .under) (h .covers) in
         rw (not-again ok h refl, r .found, r .headed .mate)
         (land ok (f .reach) (inl refl) (h .packed ∙ (clean ok (h .reach)) .packed)
@@ -280,7 +280,7 @@ module _ {names size : ℕ} {items : List Item} (ok : Accepted names size items)
   -- ---- branch and closing marks
 
   module _ {m : Run} {su : Names} {p tg : Bool} {k : Kinds} where
-    branch-fine : (c : Branch) (l : List Box) {xs : List Item} → Here ok m su l p tg k (branch c ∷ xs)
+    branch-fine : (c : Branch) (l : List Box) {xs : List Item} → Here ok m su l p tg k (Item.Branch c ∷ xs)
         → FineStep (runBranch items m (m .boxes))
     branch-fine c [] h = no ((clean ok (h .reach)) .placed)
     branch-fine c (b ∷ bs) {xs} h =
@@ -288,29 +288,29 @@ module _ {names size : ℕ} {items : List Item} (ok : Accepted names size items)
         rw (not-again ok h refl, (static ok (h .reach)) .heads .0 .mate)
         (land ok (f .reach) (inl refl) (h .packed ∙ (clean ok (h .reach)) .packed)
         (λ n e. h .cover n (both-r (b .everyEnd) su n
-        (f .meets (not-t (isLoop (b .sort)) (branch-fits c b bs ((clean ok (h .reach)) .placed))) n e)))
+        (f .meets (not-true (isLoop (b .sort)) (branch-fits c b bs ((clean ok (h .reach)) .placed))) n e)))
         (h .covers .1) (h .vars) (h .living))
 
-    close-fine : (e : Close) (l : List Box) {xs : List Item} → Here ok m su l p tg k (closes e ∷ xs)
+    close-fine : (e : Close) (l : List Box) {xs : List Item} → Here ok m su l p tg k (Item.Close e ∷ xs)
         → FineStep (runClose items m e (m .boxes))
     close-fine e [] h = no ((clean ok (h .reach)) .placed)
-    close-fine endif (b ∷ bs) h =
+    close-fine Close.EndIf (b ∷ bs) h =
         rw (not-again ok h refl)
         (land ok (more (h .reach)) (inl refl) (h .packed)
         (λ n e. h .cover n (left-sure (b .sort) b su
-        (not-t (isLoop (b .sort)) (closes-fits endif b bs ((clean ok (h .reach)) .placed))) n e))
+        (not-true (isLoop (b .sort)) (closes-fits Close.EndIf b bs ((clean ok (h .reach)) .placed))) n e))
         (h .covers .1) (h .vars) (h .living))
-    close-fine endloop (b ∷ bs) {xs} h =
+    close-fine Close.EndLoop (b ∷ bs) {xs} h =
         rw (not-again ok h refl) (go (opensA isSweep (itemAt items (b .at)) && (m .pending || m .skip)))
       where
         loops : isLoop (b .sort) ≡ true
-        loops = closes-fits endloop b bs ((clean ok (h .reach)) .placed)
+        loops = closes-fits Close.EndLoop b bs ((clean ok (h .reach)) .placed)
 
-        g : Headed items (m .at) (erase (b ∷ bs)) (closes endloop ∷ xs) tg b bs
+        g : Headed items (m .at) (erase (b ∷ bs)) (Item.Close Close.EndLoop ∷ xs) tg b bs
         g = (static ok (h .reach)) .heads .0
 
         go : (c : Bool)
-            → FineStep (cond c (said (leaves aSweep ∷ []) (unskip true (goto m (suc (m .at)) (positions bs))))
+            → FineStep (cond c (said (leaves LoopSort.Sweep ∷ []) (unskip true (goto m (suc (m .at)) (positions bs))))
             (said [] (goto m (b .at) (b .at ∷ positions bs))))
         go true =
             land ok (more (h .reach)) (inl refl) (h .packed)
@@ -321,10 +321,10 @@ module _ {names size : ℕ} {items : List Item} (ok : Accepted names size items)
 
   pub run-fine : {m : Run} {su : Names} {l : List Box} {p tg : Bool} {k : Kinds} (x : Item) {xs : List Item}
       (o : Offer) → Here ok m su l p tg k (x ∷ xs) → FineStep (run items m x o)
-  run-fine (act a) o h = act-fine a o h
-  run-fine (pack q) o h = pack-fine q h
-  run-fine (opens d) o h = head-fine d o h
-  run-fine {l = l} (branch c) o h = branch-fine c l h
-  run-fine {l = l} (closes e) o h = close-fine e l h
-  run-fine breakloop o h = break-fine h
-  run-fine tag o h = tag-fine h
+  run-fine (Item.Act a) o h = act-fine a o h
+  run-fine (Item.Pack q) o h = pack-fine q h
+  run-fine (Item.Open d) o h = head-fine d o h
+  run-fine {l = l} (Item.Branch c) o h = branch-fine c l h
+  run-fine {l = l} (Item.Close e) o h = close-fine e l h
+  run-fine Item.Break o h = break-fine h
+  run-fine Item.Tag o h = tag-fine h

@@ -6,7 +6,7 @@ use mathlib.Core.Bool.{Bool, true, false, not, _&&_, _||_, cond}
 use mathlib.Core.List.{List, [], _∷_}
 use native.Mathlib.Omega.{arith}
 use lib.Dec.{T}
-use lib.ListN.{getD, set, replicate, drop}
+use lib.ListN.{getD, set, replicate}
 use Rattle.table.specs.Uses.{Names, has}
 use Rattle.sets.specs.Names.{nothing, both}
 
@@ -38,14 +38,6 @@ and-r false b e = no′ e
 pub and-t : {a b : Bool} → a ≡ true → b ≡ true → (a && b) ≡ true
 and-t {a} {b} p q = rw p q
 
-pub not-f : (a : Bool) → not a ≡ false → a ≡ true
-not-f true e = refl
-not-f false e = sym e
-
-pub not-t : (a : Bool) → not a ≡ true → a ≡ false
-not-t true e = sym e
-not-t false e = refl
-
 -- the first of a row of tests says false, and so do the others
 pub skip : (n : ℕ) (b : Bool) (r : ℕ) → cond b (suc n) r ≡ 0 → (b ≡ false) × (r ≡ 0)
 skip n true r e = absurd (suc≢0 e)
@@ -74,18 +66,6 @@ module _ {A : Type 0} where
   getD-rep zero n a = refl
   getD-rep (suc m) zero a = refl
   getD-rep (suc m) (suc n) a = getD-rep m n a
-
-  pub drop-step : (i : ℕ) (l : List A) (x : A) (xs : List A) → drop i l ≡ x ∷ xs → drop (suc i) l ≡ xs
-  drop-step zero [] x xs e = cc
-  drop-step zero (y ∷ l) x xs e = cc
-  drop-step (suc i) [] x xs e = cc
-  drop-step (suc i) (y ∷ l) x xs e = drop-step i l x xs e
-
-  pub drop-getD : (i : ℕ) (l : List A) (d x : A) (xs : List A) → drop i l ≡ x ∷ xs → getD l i d ≡ x
-  drop-getD zero [] d x xs e = cc
-  drop-getD zero (y ∷ l) d x xs e = cc
-  drop-getD (suc i) [] d x xs e = cc
-  drop-getD (suc i) (y ∷ l) d x xs e = drop-getD i l d x xs e
 
 -- ---- sets
 abbrev pub Sub : Names → Names → Type 0

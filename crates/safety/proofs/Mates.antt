@@ -11,13 +11,12 @@ use borrow.Author.Tests.{ne-eqb, eq-eqb}
 use Rattle.value.specs.Arithmetic.{rest}
 use Rattle.table.specs.declared.Head.{Head}
 use Rattle.table.specs.declared.Branch.{Branch}
-use Rattle.table.specs.declared.Branch.the-variants.{ElseIf as elseif, Else as else}
+use Rattle.table.specs.declared.Branch.the-variants as Branch
 use Rattle.table.specs.declared.Close.{Close}
 use Rattle.table.specs.declared.Item.{Item}
-use Rattle.table.specs.declared.Item.the-variants.{Act as act, Pack as pack, Open as opens, Branch as branch}
-use Rattle.table.specs.declared.Item.the-variants.{Close as closes, Break as breakloop, Tag as tag}
+use Rattle.table.specs.declared.Item.the-variants as Item
 use Rattle.table.specs.declared.Sort.{Sort}
-use Rattle.table.specs.declared.Sort.the-variants.{If as ifBox, Loop as loopBox, Sweep as sweepBox}
+use Rattle.table.specs.declared.Sort.the-variants as Sort
 use Rattle.table.specs.declared.Want.{Want}
 use Rattle.table.specs.Item.{sortOf, isElse, isLoop, fits}
 use Rattle.table.specs.Uses.{conditionUses, Kinds, kindAt, wrong, Names, has, missing, lowest}
@@ -62,7 +61,7 @@ pub record Closes (items : List Item) (b : Box) (bs : List Box) (found : Option 
   pub e : Close
   pub ys : List Item
   pub c : Box
-  pub reach : Reach items j (state su (c ∷ bs) p tg) k (closes e ∷ ys)
+  pub reach : Reach items j (state su (c ∷ bs) p tg) k (Item.Close e ∷ ys)
   pub same : Same b c
   pub is : found ≡ some j
 
@@ -80,31 +79,31 @@ pub record Past (items : List Item) (b : Box) (bs : List Box) (i : ℕ) : Type 0
 
 -- after a loop, what held before it
 pub left-loop : (o : Sort) (c : Box) (su : Names) → isLoop o ≡ true → Sub (afterBox o (plain c) su) (c .before)
-left-loop ifBox c su e = no′ e
-left-loop loopBox c su e = λ n h. h
-left-loop sweepBox c su e = λ n h. h
+left-loop Sort.If c su e = no′ e
+left-loop Sort.Loop c su e = λ n h. h
+left-loop Sort.Sweep c su e = λ n h. h
 
 -- after endif, what holds at the end of the branches before the last
 left-meet : (o : Sort) (c : Box) (su : Names) → isLoop o ≡ false → Sub (afterBox o (plain c) su) (c .everyEnd)
-left-meet ifBox c su e n h =
+left-meet Sort.If c su e n h =
     both-l (c .everyEnd) su n (both-l (both (c .everyEnd) su) (cond (c .elseSeen) everything (c .before)) n h)
-left-meet loopBox c su e n h = no e
-left-meet sweepBox c su e n h = no e
+left-meet Sort.Loop c su e n h = no e
+left-meet Sort.Sweep c su e n h = no e
 
 -- of the last
 pub left-sure : (o : Sort) (c : Box) (su : Names) → isLoop o ≡ false → Sub (afterBox o (plain c) su) su
-left-sure ifBox c su e n h =
+left-sure Sort.If c su e n h =
     both-r (c .everyEnd) su n (both-l (both (c .everyEnd) su) (cond (c .elseSeen) everything (c .before)) n h)
-left-sure loopBox c su e n h = no e
-left-sure sweepBox c su e n h = no e
+left-sure Sort.Loop c su e n h = no e
+left-sure Sort.Sweep c su e n h = no e
 
 -- and, with no else, what held before the if
 left-before : (o : Sort) (c : Box) (su : Names) → isLoop o ≡ false → c .elseSeen ≡ false
     → Sub (afterBox o (plain c) su) (c .before)
-left-before ifBox c su e f n h =
+left-before Sort.If c su e f n h =
     rw f at (both-r (both (c .everyEnd) su) (cond (c .elseSeen) everything (c .before)) n h)
-left-before loopBox c su e f n h = no e
-left-before sweepBox c su e f n h = no e
+left-before Sort.Loop c su e f n h = no e
+left-before Sort.Sweep c su e f n h = no e
 
 -- a false condition leads into a branch of the box over bs, or past its endif
 pub data Picks (items : List Item) (at : ℕ) (before : Names) (bs : List Box) : Chosen → Type 0 where
@@ -131,10 +130,10 @@ module _ {names size : ℕ} {items : List Item} (ok : Accepted names size items)
       {bs : List Box}
       → Reach items i (state su l p tg) k xs → Under b bs l → Closes items b bs (closeFrom (b .at) i (erase l) xs)
   find-close [] r u = no (sym ((ends ok r) .0) ∙ under-some u)
-  find-close (act a ∷ xs) r u = find-close xs (more r) u
-  find-close (pack q ∷ xs) r u = find-close xs (more r) u
-  find-close (opens h ∷ xs) r u = find-close xs (more r) (there u)
-  find-close (branch x ∷ xs) {su = su} {b = b} r here =
+  find-close (Item.Act a ∷ xs) r u = find-close xs (more r) u
+  find-close (Item.Pack q ∷ xs) r u = find-close xs (more r) u
+  find-close (Item.Open h ∷ xs) r u = find-close xs (more r) (there u)
+  find-close (Item.Branch x ∷ xs) {su = su} {b = b} r here =
       let f = find-close xs {b = branchedBox x b su} (more r) here in
       record {
         j = f .j;
@@ -155,8 +154,8 @@ module _ {names size : ℕ} {items : List Item} (ok : Accepted names size items)
             };
         is = f .is;
       }
-  find-close (branch x ∷ xs) r (there u) = find-close xs (more r) (there u)
-  find-close (closes x ∷ xs) {i} {su} {l} {p} {tg} {k} {b} {bs} r here = record {
+  find-close (Item.Branch x ∷ xs) r (there u) = find-close xs (more r) (there u)
+  find-close (Item.Close x ∷ xs) {i} {su} {l} {p} {tg} {k} {b} {bs} r here = record {
     j = i;
     su = su;
     p = p;
@@ -169,18 +168,18 @@ module _ {names size : ℕ} {items : List Item} (ok : Accepted names size items)
     same = record { at = refl; sort = refl; before = refl; meet = λ n h. h };
     is = rw (closes-fits x b bs ((clean ok r) .placed), eq-eqb (b .at) (b .at) refl);
   }
-  find-close (closes x ∷ xs) {i} {b = b} r (there {c = c} {l = d} u) =
+  find-close (Item.Close x ∷ xs) {i} {b = b} r (there {c = c} {l = d} u) =
       let lower : b .at < c .at = under-below (c .at) u ((static ok r) .below .1) in
-      let q : closeFrom (b .at) i (erase (c ∷ d)) (closes x ∷ xs) ≡ closeFrom (b .at) (suc i) (erase d) xs =
+      let q : closeFrom (b .at) i (erase (c ∷ d)) (Item.Close x ∷ xs) ≡ closeFrom (b .at) (suc i) (erase d) xs =
       rw (closes-fits x c d ((clean ok r) .placed), ne-eqb (c .at) (b .at) (λ e. omega arith)) in
       rw q (find-close xs (more r) u)
-  find-close (breakloop ∷ xs) r u = find-close xs (more r) u
-  find-close (tag ∷ xs) {l = l} {tg = tg} r u =
+  find-close (Item.Break ∷ xs) r u = find-close xs (more r) u
+  find-close (Item.Tag ∷ xs) {l = l} {tg = tg} r u =
       no (ap not (sym (under-some u)) ∙ or-r tg (not (isEmpty (plains l))) ((clean ok r) .tagged))
 
   pub past-close : {b : Box} {bs : List Box} {found : Option ℕ} → Closes items b bs found → Past items b bs (past found)
   past-close {b} {bs} f =
-      let r : Reach items (f .j) (state (f .su) (f .c ∷ bs) false (f .tg)) (f .k) (closes (f .e) ∷ f .ys) =
+      let r : Reach items (f .j) (state (f .su) (f .c ∷ bs) false (f .tg)) (f .k) (Item.Close (f .e) ∷ f .ys) =
       rw ((clean ok (f .reach)) .packed) at (f .reach) in
       rw (f .is) (record {
         su = afterBox (f .c .sort) (plain (f .c)) (f .su);
@@ -193,7 +192,7 @@ module _ {names size : ℕ} {items : List Item} (ok : Accepted names size items)
       })
 
   pub close-head : {i : ℕ} {su : Names} {l : List Box} {p tg : Bool} {k : Kinds} {h : Head} {ys : List Item}
-      → Reach items i (state su l p tg) k (opens h ∷ ys) → Closes items (boxOf i h su) l (closeOf items i)
+      → Reach items i (state su l p tg) k (Item.Open h ∷ ys) → Closes items (boxOf i h su) l (closeOf items i)
   close-head {ys = ys} r =
       let s = static ok r in
       rw (s .scanned, s .text) (find-close ys (more r) here)
@@ -223,34 +222,35 @@ module _ {names size : ℕ} {items : List Item} (ok : Accepted names size items)
         → Readable (b .before) vs
         → Picks items (b .at) (b .before) bs (choose vs (b .at) i (erase l) xs)
     choose-good [] r u e f g = no (sym ((ends ok r) .0) ∙ under-some u)
-    choose-good (act a ∷ xs) {l = l} {b = b} r u e f g =
-        rw (no-mark (act a) (λ o. refl) (b .at) (erase l)) (choose-good xs (more r) u e f g)
-    choose-good (pack q ∷ xs) {l = l} {b = b} r u e f g =
-        rw (no-mark (pack q) (λ o. refl) (b .at) (erase l)) (choose-good xs (more r) u e f g)
-    choose-good (opens h ∷ xs) {l = l} {b = b} r u e f g =
-        rw (no-mark (opens h) (λ o. refl) (b .at) (erase l)) (choose-good xs (more r) (there u) e f g)
-    choose-good (branch (elseif c) ∷ xs) {i} {su} {p = p} {tg = tg} {k = k} {b = b} {bs = bs} r here e f g =
-        let r′ : Reach items i (state su (b ∷ bs) false tg) k (branch (elseif c) ∷ xs) =
+    choose-good (Item.Act a ∷ xs) {l = l} {b = b} r u e f g =
+        rw (no-mark (Item.Act a) (λ o. refl) (b .at) (erase l)) (choose-good xs (more r) u e f g)
+    choose-good (Item.Pack q ∷ xs) {l = l} {b = b} r u e f g =
+        rw (no-mark (Item.Pack q) (λ o. refl) (b .at) (erase l)) (choose-good xs (more r) u e f g)
+    choose-good (Item.Open h ∷ xs) {l = l} {b = b} r u e f g =
+        rw (no-mark (Item.Open h) (λ o. refl) (b .at) (erase l)) (choose-good xs (more r) (there u) e f g)
+    choose-good (Item.Branch (Branch.ElseIf c) ∷ xs) {i} {su} {p = p} {tg = tg} {k = k} {b = b} {bs = bs} r here e f g =
+        let r′ : Reach items i (state su (b ∷ bs) false tg) k (Item.Branch (Branch.ElseIf c) ∷ xs) =
         rw ((clean ok r) .packed) at r in
-        let rest = choose-good xs {b = branchedBox (elseif c) b su} (more r′) here refl f g in
+        let rest = choose-good xs {b = branchedBox (Branch.ElseIf c) b su} (more r′) here refl f g in
         let pick : (h : Bool)
         → Picks items (b .at) (b .before) bs
         (cond h (into (suc i)) (choose vs (b .at) (suc i) (erase (b ∷ bs)) xs)) =
         λ h. elim h [ true ↦ goes (more r′) refl refl | false ↦ rest ] in
         rw (f, eq-eqb (b .at) (b .at) refl, g (conditionUses c) (rw f at ((clean ok r) .there)) ((clean ok r) .kinds))
         (pick (holds vs c))
-    choose-good (branch else ∷ xs) {i} {su} {p = p} {tg = tg} {k = k} {b = b} {bs = bs} r here e f g =
-        let r′ : Reach items i (state su (b ∷ bs) false tg) k (branch else ∷ xs) = rw ((clean ok r) .packed) at r in
+    choose-good (Item.Branch Branch.Else ∷ xs) {i} {su} {p = p} {tg = tg} {k = k} {b = b} {bs = bs} r here e f g =
+        let r′ : Reach items i (state su (b ∷ bs) false tg) k (Item.Branch Branch.Else ∷ xs) =
+        rw ((clean ok r) .packed) at r in
         rw (f, eq-eqb (b .at) (b .at) refl) (goes (more r′) refl refl)
-    choose-good (branch x ∷ xs) r (there u) e f g =
-        rw (other-box (branch x) r u) (choose-good xs (more r) (there u) e f g)
-    choose-good (closes x ∷ xs) {i} {su} {p = p} {tg = tg} {k = k} {b = b} {bs = bs} r here e f g =
-        let r′ : Reach items i (state su (b ∷ bs) false tg) k (closes x ∷ xs) = rw ((clean ok r) .packed) at r in
+    choose-good (Item.Branch x ∷ xs) r (there u) e f g =
+        rw (other-box (Item.Branch x) r u) (choose-good xs (more r) (there u) e f g)
+    choose-good (Item.Close x ∷ xs) {i} {su} {p = p} {tg = tg} {k = k} {b = b} {bs = bs} r here e f g =
+        let r′ : Reach items i (state su (b ∷ bs) false tg) k (Item.Close x ∷ xs) = rw ((clean ok r) .packed) at r in
         rw (closes-fits x b bs ((clean ok r) .placed), eq-eqb (b .at) (b .at) refl)
         (passes (more r′) (left-before (b .sort) b su f e))
-    choose-good (closes x ∷ xs) r (there {c = c} {l = d} u) e f g =
-        rw (other-box (closes x) r u, closes-fits x c d ((clean ok r) .placed)) (choose-good xs (more r) u e f g)
-    choose-good (breakloop ∷ xs) {l = l} {b = b} r u e f g =
-        rw (no-mark breakloop (λ o. refl) (b .at) (erase l)) (choose-good xs (more r) u e f g)
-    choose-good (tag ∷ xs) {l = l} {tg = tg} r u e f g =
+    choose-good (Item.Close x ∷ xs) r (there {c = c} {l = d} u) e f g =
+        rw (other-box (Item.Close x) r u, closes-fits x c d ((clean ok r) .placed)) (choose-good xs (more r) u e f g)
+    choose-good (Item.Break ∷ xs) {l = l} {b = b} r u e f g =
+        rw (no-mark Item.Break (λ o. refl) (b .at) (erase l)) (choose-good xs (more r) u e f g)
+    choose-good (Item.Tag ∷ xs) {l = l} {tg = tg} r u e f g =
         no (ap not (sym (under-some u)) ∙ or-r tg (not (isEmpty (plains l))) ((clean ok r) .tagged))

@@ -7,21 +7,22 @@ use mathlib.Core.List.{List, [], _∷_}
 use native.Mathlib.Omega.{arith}
 use lib.ListN.{length, set, replicate, length-set}
 use lib.Seq.{getD-set-same}
+use borrow.Author.Tests.{not-false}
 use Rattle.table.specs.declared.Operand.{Operand}
-use Rattle.table.specs.declared.Operand.the-variants.{Name as name, Literal as literal}
+use Rattle.table.specs.declared.Operand.the-variants as Operand
 use Rattle.table.specs.declared.Kind.{Kind}
-use Rattle.table.specs.declared.Kind.the-variants.{Whole as wholeKind, Real as realKind}
+use Rattle.table.specs.declared.Kind.the-variants as Kind
 use Rattle.table.specs.declared.Known.{Known}
-use Rattle.table.specs.declared.Known.the-variants.{Unknown as unknown, Of as known}
+use Rattle.table.specs.declared.Known.the-variants as Known
 use Rattle.table.specs.declared.Want.{Want}
-use Rattle.table.specs.declared.Want.the-variants.{Any as any, Alike as alike, Float as floats}
+use Rattle.table.specs.declared.Want.the-variants as Want
 use Rattle.table.specs.Uses.{kindOf, alikeKind, differ, Kinds, kindAt, kindIn, wrong, Names, has, gone, missing}
 use Rattle.rules.specs.Check.{isKnown}
 use Rattle.rules.proofs.Placed.{Box}
 use Rattle.state.specs.declared.Cell.{Cell}
-use Rattle.state.specs.declared.Cell.the-variants.{Unwritten as unwritten, Holds as held}
+use Rattle.state.specs.declared.Cell.the-variants as Cell
 use Rattle.state.specs.State.{Vars, cellAt, isWritten, cellKind, cellValue, written, kindNow, cellOk, cellsOk}
-use Rattle.safety.proofs.Laws.{no′, or-l, or-r, or-f, not-f, AfterSet, getD-set, getD-rep}
+use Rattle.safety.proofs.Laws.{no′, or-l, or-r, or-f, AfterSet, getD-set, getD-rep}
 use Rattle.safety.proofs.Sure.{Within}
 
 -- the names of the set are written
@@ -39,18 +40,18 @@ pub record VarsOk (k : Kinds) (vs : Vars) : Type 0 where
   pub agree : (n : ℕ) → differ (kindAt k n) (kindNow vs n) ≡ false
   pub fine : (n : ℕ) → cellOk (cellAt vs n) ≡ true
 
-pub fresh-vars : (k : Kinds) → VarsOk k (replicate 32 unwritten)
+pub fresh-vars : (k : Kinds) → VarsOk k (replicate 32 Cell.Unwritten)
 fresh-vars k = record { len = refl; agree = agrees; fine = fines }
   where
-    none-differs : (j : Known) → differ j unknown ≡ false
-    none-differs unknown = refl
-    none-differs (known j) = refl
+    none-differs : (j : Known) → differ j Known.Unknown ≡ false
+    none-differs Known.Unknown = refl
+    none-differs (Known.Of j) = refl
 
-    agrees : (n : ℕ) → differ (kindAt k n) (kindNow (replicate 32 unwritten) n) ≡ false
-    agrees n = rw (getD-rep 32 n unwritten) (none-differs (kindAt k n))
+    agrees : (n : ℕ) → differ (kindAt k n) (kindNow (replicate 32 Cell.Unwritten) n) ≡ false
+    agrees n = rw (getD-rep 32 n Cell.Unwritten) (none-differs (kindAt k n))
 
-    fines : (n : ℕ) → cellOk (cellAt (replicate 32 unwritten) n) ≡ true
-    fines n = rw (getD-rep 32 n unwritten)
+    fines : (n : ℕ) → cellOk (cellAt (replicate 32 Cell.Unwritten) n) ≡ true
+    fines n = rw (getD-rep 32 n Cell.Unwritten)
 
 pub cells-ok : (vs : Vars) → ((n : ℕ) → cellOk (cellAt vs n) ≡ true) → cellsOk vs ≡ true
 cells-ok [] f = refl
@@ -63,22 +64,22 @@ module _ (vs : Vars) (v : ℕ) (w : Cell) where
       → VarsOk k (set vs v w)
   set-vars {k} o f d = record {
     len = length-set vs v w ∙ o .len;
-    agree = λ n. agrees n (getD-set vs v w n unwritten);
-    fine = λ n. fines n (getD-set vs v w n unwritten);
+    agree = λ n. agrees n (getD-set vs v w n Cell.Unwritten);
+    fine = λ n. fines n (getD-set vs v w n Cell.Unwritten);
   }
     where
-      agrees : (n : ℕ) → AfterSet vs v w n unwritten → differ (kindAt k n) (kindNow (set vs v w) n) ≡ false
+      agrees : (n : ℕ) → AfterSet vs v w n Cell.Unwritten → differ (kindAt k n) (kindNow (set vs v w) n) ≡ false
       agrees n (inl q) = rw (q .1, q .0) d
       agrees n (inr q) = rw q (o .agree n)
 
-      fines : (n : ℕ) → AfterSet vs v w n unwritten → cellOk (cellAt (set vs v w) n) ≡ true
+      fines : (n : ℕ) → AfterSet vs v w n Cell.Unwritten → cellOk (cellAt (set vs v w) n) ≡ true
       fines n (inl q) = rw (q .1) f
       fines n (inr q) = rw q (o .fine n)
 
   pub written-up : (n : ℕ) → isWritten w ≡ true → written vs n ≡ true → written (set vs v w) n ≡ true
-  written-up n e h = go (getD-set vs v w n unwritten)
+  written-up n e h = go (getD-set vs v w n Cell.Unwritten)
     where
-      go : AfterSet vs v w n unwritten → written (set vs v w) n ≡ true
+      go : AfterSet vs v w n Cell.Unwritten → written (set vs v w) n ≡ true
       go (inl q) = rw (q .1) e
       go (inr q) = rw q h
 
@@ -91,29 +92,29 @@ module _ (vs : Vars) (v : ℕ) (w : Cell) where
   cover-set su l u e c n h = go (getD-set su v true n false)
     where
       go : AfterSet su v true n false → written (set vs v w) n ≡ true
-      go (inl q) = rw (q .0, getD-set-same vs v w unwritten (omega arith)) e
+      go (inl q) = rw (q .0, getD-set-same vs v w Cell.Unwritten (omega arith)) e
       go (inr q) = written-up n e (c n (sym q ∙ h))
 
 -- ---- reading a name: what the checker knows of it is so
 
 alike-eq : (j k : Kind) → alikeKind j k ≡ true → j ≡ k
-alike-eq wholeKind wholeKind h = refl
-alike-eq wholeKind realKind h = no′ h
-alike-eq realKind wholeKind h = no′ h
-alike-eq realKind realKind h = refl
+alike-eq Kind.Whole Kind.Whole h = refl
+alike-eq Kind.Whole Kind.Real h = no′ h
+alike-eq Kind.Real Kind.Whole h = no′ h
+alike-eq Kind.Real Kind.Real h = refl
 
 same-kind : (a b : Known) → isKnown a ≡ true → isKnown b ≡ true → differ a b ≡ false → b ≡ a
-same-kind unknown b p q h = no′ p
-same-kind (known j) unknown p q h = no′ q
-same-kind (known j) (known k) p q h = ap known (sym (alike-eq j k (not-f (alikeKind j k) h)))
+same-kind Known.Unknown b p q h = no′ p
+same-kind (Known.Of j) Known.Unknown p q h = no′ q
+same-kind (Known.Of j) (Known.Of k) p q h = ap Known.Of (sym (alike-eq j k (not-false (alikeKind j k) h)))
 
 known-cell : (w : Cell) → isWritten w ≡ true → isKnown (cellKind w) ≡ true
-known-cell unwritten h = h
-known-cell (held v t) h = refl
+known-cell Cell.Unwritten h = h
+known-cell (Cell.Holds v t) h = refl
 
-pub cell-kind : (w : Cell) → isWritten w ≡ true → cellKind w ≡ known (kindOf (cellValue w))
-cell-kind unwritten h = no′ h
-cell-kind (held v t) h = refl
+pub cell-kind : (w : Cell) → isWritten w ≡ true → cellKind w ≡ Known.Of (kindOf (cellValue w))
+cell-kind Cell.Unwritten h = no′ h
+cell-kind (Cell.Holds v t) h = refl
 
 -- what the checker knows of the names holds of the run: those of su are written and have a kind
 pub record Knows (k : Kinds) (su : Names) (vs : Vars) : Type 0 where
@@ -127,27 +128,27 @@ module _ {k : Kinds} {su : Names} {vs : Vars} (a : Knows k su vs) where
       same-kind (kindAt k n) (kindNow vs n) (a .kinds n h) (known-cell (cellAt vs n) (a .cover n h)) (a .vars .agree n)
 
   here-now : (x : Operand) → gone (has su) x ≡ false → gone (written vs) x ≡ false
-  here-now (name n) h = rw (a .cover n (not-f (has su n) h))
-  here-now (literal l) h = refl
+  here-now (Operand.Name n) h = rw (a .cover n (not-false (has su n) h))
+  here-now (Operand.Literal l) h = refl
 
   kind-in : (x : Operand) → gone (has su) x ≡ false → kindIn (kindNow vs) x ≡ kindIn (kindAt k) x
-  kind-in (name n) h = kind-now n (not-f (has su n) h)
-  kind-in (literal l) h = refl
+  kind-in (Operand.Name n) h = kind-now n (not-false (has su n) h)
+  kind-in (Operand.Literal l) h = refl
 
   -- no name is missing that the checker was sure of
   pub there-now : (ws : List Want) → missing (has su) ws ≡ false → missing (written vs) ws ≡ false
   there-now [] h = refl
-  there-now (any x ∷ ws) h = or-f (there-now ws (or-l _ _ h)) (here-now x (or-r (missing (has su) ws) _ h))
-  there-now (alike x y ∷ ws) h =
+  there-now (Want.Any x ∷ ws) h = or-f (there-now ws (or-l _ _ h)) (here-now x (or-r (missing (has su) ws) _ h))
+  there-now (Want.Alike x y ∷ ws) h =
       let b = or-r (missing (has su) ws) _ h in
       or-f (there-now ws (or-l _ _ h)) (or-f (here-now x (or-l _ _ b)) (here-now y (or-r (gone (has su) x) _ b)))
-  there-now (floats x ∷ ws) h = or-f (there-now ws (or-l _ _ h)) (here-now x (or-r (missing (has su) ws) _ h))
+  there-now (Want.Float x ∷ ws) h = or-f (there-now ws (or-l _ _ h)) (here-now x (or-r (missing (has su) ws) _ h))
 
   -- and the kinds that meet are those of the text
   pub wrong-now : (ws : List Want) → missing (has su) ws ≡ false → wrong (kindNow vs) ws ≡ wrong (kindAt k) ws
   wrong-now [] h = refl
-  wrong-now (any x ∷ ws) h = wrong-now ws (or-l _ _ h)
-  wrong-now (alike x y ∷ ws) h =
+  wrong-now (Want.Any x ∷ ws) h = wrong-now ws (or-l _ _ h)
+  wrong-now (Want.Alike x y ∷ ws) h =
       let b = or-r (missing (has su) ws) _ h in
       rw (wrong-now ws (or-l _ _ h), kind-in x (or-l _ _ b), kind-in y (or-r (gone (has su) x) _ b))
-  wrong-now (floats x ∷ ws) h = rw (wrong-now ws (or-l _ _ h), kind-in x (or-r (missing (has su) ws) _ h))
+  wrong-now (Want.Float x ∷ ws) h = rw (wrong-now ws (or-l _ _ h), kind-in x (or-r (missing (has su) ws) _ h))

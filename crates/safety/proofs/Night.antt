@@ -6,17 +6,16 @@ use mathlib.Core.List.{List, [], _∷_, _++_}
 use lib.IntN.{pos}
 use lib.Ieee.{Float, nan}
 use lib.ListN.{length, replicate}
-use Rattle.value.specs.declared.Value.the-variants.{Real as real}
+use Rattle.value.specs.declared.Value.the-variants as Value
 use Rattle.value.specs.Literal.{plain, over}
 use Rattle.table.specs.declared.Script.{Script}
-use Rattle.state.specs.declared.LoopSort.the-variants.{Loop as aLoop, Sweep as aSweep}
+use Rattle.state.specs.declared.LoopSort.the-variants as LoopSort
 use Rattle.script.specs.Load.{loaded}
 use Rattle.rules.specs.Check.{accepted, verdict}
 use Rattle.state.specs.declared.Control.{Control}
-use Rattle.state.specs.declared.Control.the-variants.{None as noControl, Z, Y}
+use Rattle.state.specs.declared.Control.the-variants as Control
 use Rattle.state.specs.declared.Offer.{Offer}
-use Rattle.state.specs.declared.Offer.the-variants.{Nothing as nothing, Float as oneFloat, Point as onePoint}
-use Rattle.state.specs.declared.Offer.the-variants.{Done as done}
+use Rattle.state.specs.declared.Offer.the-variants as Offer
 use Rattle.state.specs.State.{da, ba, code0010, Run, Out, enters, leaves, packStart, packEnd, packPart, says, waits}
 use Rattle.state.specs.State.{setsE, setsMode, switchesCell, Answer, running, waiting, finished, stopped, refuse, fresh}
 use Rattle.machine.specs.Machine.{step}
@@ -34,18 +33,20 @@ log size t m (e ∷ es) = let s = step size t m (e .0) (e .1) in
     (e .0, e .1, s .answer, s .outs) ∷ log size t (s .next) es
 
 abbrev goes : List Out → Entry
-goes os = (noControl, nothing, running, os)
+goes os = (Control.None, Offer.Nothing, running, os)
 
 -- the float that a whole number is
 abbrev volts : ℕ → Float
 volts n = plain (pos n)
 
 abbrev at : ℕ → ℕ → Offer
-at x y = onePoint (record { potential = volts x; current = volts y })
+at x y = Offer.Point (record { potential = volts x; current = volts y })
 
 abbrev packed : ℕ → ℕ → List Entry
 packed x y =
-    goes (packStart ∷ []) ∷ goes (packPart (real (volts x)) da ∷ []) ∷ goes (packPart (real (volts y)) ba ∷ [])
+    goes (packStart ∷ [])
+    ∷ goes (packPart (Value.Real (volts x)) da ∷ [])
+    ∷ goes (packPart (Value.Real (volts y)) ba ∷ [])
     ∷ goes (packEnd ∷ []) ∷ []
 
 -- up to the first measuring loop
@@ -56,65 +57,65 @@ settle =
     ∷ goes (switchesCell true ∷ [])
     ∷ goes (says (record { start = 93; end = 97 }) ∷ [])
     ∷ replicate 7 (goes [])
-    ++ goes (waits (real (over (pos 100) 3)) ∷ [])
-    ∷ goes (setsE (real (volts 0)) ∷ [])
+    ++ goes (waits (Value.Real (over (pos 100) 3)) ∷ [])
+    ∷ goes (setsE (Value.Real (volts 0)) ∷ [])
     ∷ []
 
 abbrev whole-run : List Entry
 whole-run =
     settle
     -- a float where a point or done is wanted: refused; nothing: a wait; a point enters
-    ++ (noControl, oneFloat (volts 1), refuse 31 0, [])
-    ∷ (noControl, nothing, waiting, [])
-    ∷ (noControl, at 1 2, running, enters aSweep ∷ [])
+    ++ (Control.None, Offer.Float (volts 1), refuse 31 0, [])
+    ∷ (Control.None, Offer.Nothing, waiting, [])
+    ∷ (Control.None, at 1 2, running, enters LoopSort.Sweep ∷ [])
     ∷ packed 1 2
     ++ goes []
     -- the second point, and a skip in its package: the sweep is left at its endloop
-    ∷ (noControl, at 3 4, running, [])
-    ∷ (Y, nothing, running, packStart ∷ [])
-    ∷ goes (packPart (real (volts 3)) da ∷ [])
-    ∷ goes (packPart (real (volts 4)) ba ∷ [])
+    ∷ (Control.None, at 3 4, running, [])
+    ∷ (Control.Y, Offer.Nothing, running, packStart ∷ [])
+    ∷ goes (packPart (Value.Real (volts 3)) da ∷ [])
+    ∷ goes (packPart (Value.Real (volts 4)) ba ∷ [])
     ∷ goes (packEnd ∷ [])
-    ∷ goes (leaves aSweep ∷ [])
+    ∷ goes (leaves LoopSort.Sweep ∷ [])
     -- the loop, once by its if and once by its elseif, which breaks
-    ∷ goes (enters aLoop ∷ [])
+    ∷ goes (enters LoopSort.Loop ∷ [])
     ∷ goes []
     ∷ goes []
-    ∷ goes (waits (real (volts 1)) ∷ [])
+    ∷ goes (waits (Value.Real (volts 1)) ∷ [])
     ∷ goes []
     ∷ goes []
     ∷ goes []
     ∷ goes []
     ∷ goes []
-    ∷ goes (leaves aLoop ∷ [])
+    ∷ goes (leaves LoopSort.Loop ∷ [])
     -- two readings, an empty sweep, the abort, the tag, the end; a finished run repeats its answer
-    ∷ (noControl, oneFloat (volts 5), running, [])
-    ∷ (noControl, oneFloat (volts 6), running, [])
-    ∷ (noControl, done, running, enters aSweep ∷ leaves aSweep ∷ [])
+    ∷ (Control.None, Offer.Float (volts 5), running, [])
+    ∷ (Control.None, Offer.Float (volts 6), running, [])
+    ∷ (Control.None, Offer.Done, running, enters LoopSort.Sweep ∷ leaves LoopSort.Sweep ∷ [])
     ∷ goes []
     ∷ goes []
     ∷ goes (switchesCell false ∷ [])
-    ∷ (noControl, nothing, finished, [])
-    ∷ (Z, at 1 2, finished, [])
+    ∷ (Control.None, Offer.Nothing, finished, [])
+    ∷ (Control.Z, at 1 2, finished, [])
     ∷ []
 
 -- the loop is entered, and a Z closes it and leads to the tag
 abbrev aborted-run : List Entry
 aborted-run =
     settle
-    ++ (noControl, done, running, enters aSweep ∷ leaves aSweep ∷ [])
-    ∷ goes (enters aLoop ∷ [])
-    ∷ (Z, nothing, running, leaves aLoop ∷ [])
+    ++ (Control.None, Offer.Done, running, enters LoopSort.Sweep ∷ leaves LoopSort.Sweep ∷ [])
+    ∷ goes (enters LoopSort.Loop ∷ [])
+    ∷ (Control.Z, Offer.Nothing, running, leaves LoopSort.Loop ∷ [])
     ∷ goes (switchesCell false ∷ [])
-    ∷ (noControl, nothing, finished, [])
+    ∷ (Control.None, Offer.Nothing, finished, [])
     ∷ []
 
 -- a point that is not a number stops the run with 0010
 abbrev stopped-run : List Entry
 stopped-run =
     settle
-    ++ (noControl, onePoint (record { potential = volts 1; current = nan }), stopped code0010, [])
-    ∷ (Z, done, stopped code0010, [])
+    ++ (Control.None, Offer.Point (record { potential = volts 1; current = nan }), stopped code0010, [])
+    ∷ (Control.Z, Offer.Done, stopped code0010, [])
     ∷ []
 
 pub night-accepted : ((loaded night) .number ≡ 0) × (verdict (length night) ((loaded night) .table) ≡ accepted)

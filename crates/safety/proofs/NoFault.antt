@@ -6,12 +6,12 @@ use mathlib.Core.Bool.{Bool, true, false, _&&_, cond}
 use mathlib.Core.List.{List, [], _∷_}
 use lib.Dec.{leb}
 use lib.ListN.{length}
-use borrow.Author.Tests.{eq-eqb}
+use borrow.Author.Tests.{eq-eqb, not-false}
+use Rattle.laws.proofs.Lists.{drop-getD}
 use Rattle.table.specs.declared.Condition.{Condition}
-use Rattle.table.specs.declared.Head.the-variants.{If as if', Loop as loop, Sweep as sweep}
+use Rattle.table.specs.declared.Head.the-variants as Head
 use Rattle.table.specs.declared.Item.{Item}
-use Rattle.table.specs.declared.Item.the-variants.{Act as act, Pack as pack, Open as opens, Branch as branch}
-use Rattle.table.specs.declared.Item.the-variants.{Close as closes, Break as breakloop, Tag as tag}
+use Rattle.table.specs.declared.Item.the-variants as Item
 use Rattle.table.specs.declared.Want.{Want}
 use Rattle.table.specs.Item.{isOpen, isLoop, opensA, fits}
 use Rattle.table.specs.Uses.{actUses, uses, Kinds, wrong, Names, missing, lowest}
@@ -21,7 +21,7 @@ use Rattle.rules.specs.Check.{anyBox}
 use Rattle.rules.proofs.Placed.{Box, Placed, plains}
 use Rattle.state.specs.State.{Vars, written, kindNow, holds, Run}
 use Rattle.machine.specs.Machine.{unwind, strays, reads, astray, tooDeep, faults, Chosen, otherwise, badOf, tries}
-use Rattle.safety.proofs.Laws.{no, no′, not-f, drop-getD}
+use Rattle.safety.proofs.Laws.{no, no′}
 use Rattle.safety.proofs.Walk.{textKinds, Accepted, more, Clean, closes-fits, branch-fits, clean}
 use Rattle.safety.proofs.Boxes.{erase, Headed, Heads}
 use Rattle.safety.proofs.Static.{static}
@@ -46,14 +46,15 @@ module _ {names size : ℕ} {items : List Item} (ok : Accepted names size items)
   -- the item x reads only what is written, and of the right kinds
   reads-fine : (x : Item) {s : Placed} {vs : Vars} → Clean (textKinds items) s x → Knows (textKinds items) (s .sure) vs
       → NoFault (reads x) vs
-  reads-fine (act a) c n = (there-now n (actUses a) (c .there), wrong-now n (actUses a) (c .there) ∙ c .kinds)
-  reads-fine (pack p) c n = (there-now n (uses (pack p)) (c .there), wrong-now n (uses (pack p)) (c .there) ∙ c .kinds)
-  reads-fine (opens h) c n =
-      (there-now n (uses (opens h)) (c .there), wrong-now n (uses (opens h)) (c .there) ∙ c .kinds)
-  reads-fine (branch b) c n = (refl, refl)
-  reads-fine (closes e) c n = (refl, refl)
-  reads-fine breakloop c n = (refl, refl)
-  reads-fine tag c n = (refl, refl)
+  reads-fine (Item.Act a) c n = (there-now n (actUses a) (c .there), wrong-now n (actUses a) (c .there) ∙ c .kinds)
+  reads-fine (Item.Pack p) c n =
+      (there-now n (uses (Item.Pack p)) (c .there), wrong-now n (uses (Item.Pack p)) (c .there) ∙ c .kinds)
+  reads-fine (Item.Open h) c n =
+      (there-now n (uses (Item.Open h)) (c .there), wrong-now n (uses (Item.Open h)) (c .there) ∙ c .kinds)
+  reads-fine (Item.Branch b) c n = (refl, refl)
+  reads-fine (Item.Close e) c n = (refl, refl)
+  reads-fine Item.Break c n = (refl, refl)
+  reads-fine Item.Tag c n = (refl, refl)
 
   -- ---- 62
 
@@ -74,7 +75,7 @@ module _ {names size : ℕ} {items : List Item} (ok : Accepted names size items)
       item : opensA isLoop (itemAt items (b .at)) ≡ isLoop (b .sort)
       item =
           rw (
-            drop-getD (b .at) items tag (opens (h .0 .head)) (h .0 .body) ((static ok (h .0 .reach)) .text),
+            drop-getD (b .at) items Item.Tag (Item.Open (h .0 .head)) (h .0 .body) ((static ok (h .0 .reach)) .text),
             h .0 .sort,
           )
 
@@ -93,12 +94,12 @@ module _ {names size : ℕ} {items : List Item} (ok : Accepted names size items)
           }
 
   pub innermost-loop : {m : Run} {su : Names} {l : List Box} {p tg : Bool} {k : Kinds} {xs : List Item}
-      → Here ok m su l p tg k (breakloop ∷ xs)
-      → Loop (m .at) (erase l) (breakloop ∷ xs) tg l
+      → Here ok m su l p tg k (Item.Break ∷ xs)
+      → Loop (m .at) (erase l) (Item.Break ∷ xs) tg l
   innermost-loop {l = []} h = no ((clean ok (h .reach)) .placed)
   innermost-loop {m} {l = b ∷ bs} {tg = tg} {xs = xs} h =
-      find-loop (m .at) (erase (b ∷ bs)) (breakloop ∷ xs) tg (b ∷ bs) ((static ok (h .reach)) .heads)
-      (not-f (anyBox isLoop (plains (b ∷ bs))) ((clean ok (h .reach)) .placed))
+      find-loop (m .at) (erase (b ∷ bs)) (Item.Break ∷ xs) tg (b ∷ bs) ((static ok (h .reach)) .heads)
+      (not-false (anyBox isLoop (plains (b ∷ bs))) ((clean ok (h .reach)) .placed))
 
   strays-not : (x : Item) {ps : List ℕ} (b : Box) (bs : List Box) → ps ≡ positions (b ∷ bs) → fits x (b .sort) ≡ true
       → strays x ps (erase (b ∷ bs)) ≡ false
@@ -106,23 +107,23 @@ module _ {names size : ℕ} {items : List Item} (ok : Accepted names size items)
 
   module _ {m : Run} {su : Names} {p tg : Bool} {k : Kinds} {xs : List Item} where
     not-astray : (x : Item) (l : List Box) → Here ok m su l p tg k (x ∷ xs) → astray items m x ≡ false
-    not-astray (act a) l h = refl
-    not-astray (pack a) l h = refl
-    not-astray (opens a) l h = rw ((close-head ok (h .reach)) .is)
-    not-astray (branch a) [] h = no ((clean ok (h .reach)) .placed)
-    not-astray (branch a) (b ∷ bs) h =
+    not-astray (Item.Act a) l h = refl
+    not-astray (Item.Pack a) l h = refl
+    not-astray (Item.Open a) l h = rw ((close-head ok (h .reach)) .is)
+    not-astray (Item.Branch a) [] h = no ((clean ok (h .reach)) .placed)
+    not-astray (Item.Branch a) (b ∷ bs) h =
         rw (
           (static ok (h .reach)) .scanned,
-          strays-not (branch a) b bs (not-again ok h refl) (branch-fits a b bs ((clean ok (h .reach)) .placed)),
+          strays-not (Item.Branch a) b bs (not-again ok h refl) (branch-fits a b bs ((clean ok (h .reach)) .placed)),
         )
-    not-astray (closes a) [] h = no ((clean ok (h .reach)) .placed)
-    not-astray (closes a) (b ∷ bs) h =
+    not-astray (Item.Close a) [] h = no ((clean ok (h .reach)) .placed)
+    not-astray (Item.Close a) (b ∷ bs) h =
         rw (
           (static ok (h .reach)) .scanned,
-          strays-not (closes a) b bs (not-again ok h refl) (closes-fits a b bs ((clean ok (h .reach)) .placed)),
+          strays-not (Item.Close a) b bs (not-again ok h refl) (closes-fits a b bs ((clean ok (h .reach)) .placed)),
         )
-    not-astray breakloop l h = rw (not-again ok h refl, (innermost-loop h) .found)
-    not-astray tag l h = refl
+    not-astray Item.Break l h = rw (not-again ok h refl, (innermost-loop h) .found)
+    not-astray Item.Tag l h = refl
 
   -- ---- 63, and all of them
 
@@ -145,11 +146,11 @@ module _ {names size : ℕ} {items : List Item} (ok : Accepted names size items)
   -- ---- the mates that a false condition tries
 
   module _ {m : Run} {su : Names} {l : List Box} {p tg : Bool} {k : Kinds} {c : Condition} {xs : List Item}
-      (h : Here ok m su l p tg k (opens (if' c) ∷ xs)) where
+      (h : Here ok m su l p tg k (Item.Open (Head.If c) ∷ xs)) where
     pub mates-good : Picks items (m .at) su l (otherwise items m)
     mates-good =
         let s = static ok (h .reach) in
-        rw (s .scanned, s .text, no-mark (opens (if' c)) (λ s. refl) (m .at) (erase l))
+        rw (s .scanned, s .text, no-mark (Item.Open (Head.If c)) (λ s. refl) (m .at) (erase l))
         (choose-good ok (m .vars) xs (more (h .reach)) here refl refl (readable (knows ok h)))
 
   picks-good : {i : ℕ} {su : Names} {l : List Box} {d : Chosen} → Picks items i su l d → badOf d ≡ 0
@@ -158,16 +159,16 @@ module _ {names size : ℕ} {items : List Item} (ok : Accepted names size items)
 
   pub no-try : {m : Run} {su : Names} {l : List Box} {p tg : Bool} {k : Kinds} (x : Item) {xs : List Item}
       → Here ok m su l p tg k (x ∷ xs) → tries items m x ≡ 0
-  no-try (act a) h = refl
-  no-try (pack q) h = refl
-  no-try {m} (opens (if' c)) h = go (holds (m .vars) c)
+  no-try (Item.Act a) h = refl
+  no-try (Item.Pack q) h = refl
+  no-try {m} (Item.Open (Head.If c)) h = go (holds (m .vars) c)
     where
       go : (b : Bool) → cond b 0 (badOf (otherwise items m)) ≡ 0
       go true = refl
       go false = picks-good (mates-good h)
-  no-try (opens (loop c)) h = refl
-  no-try (opens (sweep w)) h = refl
-  no-try (branch b) h = refl
-  no-try (closes e) h = refl
-  no-try breakloop h = refl
-  no-try tag h = refl
+  no-try (Item.Open (Head.Loop c)) h = refl
+  no-try (Item.Open (Head.Sweep w)) h = refl
+  no-try (Item.Branch b) h = refl
+  no-try (Item.Close e) h = refl
+  no-try Item.Break h = refl
+  no-try Item.Tag h = refl

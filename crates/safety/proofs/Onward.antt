@@ -9,7 +9,7 @@ use lib.ListN.{length, replicate}
 use borrow.Author.Tests.{eqb-true}
 use Rattle.table.specs.declared.Item.{Item}
 use Rattle.table.specs.declared.Known.{Known}
-use Rattle.table.specs.declared.Known.the-variants.{Unknown as unknown}
+use Rattle.table.specs.declared.Known.the-variants as Known
 use Rattle.table.specs.declared.Script.{Script}
 use Rattle.table.specs.Shape.{inShape, itemsOf}
 use Rattle.table.specs.Uses.{lowest}
@@ -52,7 +52,7 @@ line-tells t accepted f = λ e. refl
 line-tells t (refused n i) f = λ e. ap (λ (v : Verdict). atLine t v) (f e)
 
 walked-tells : (t : Script) → Tells (walked t)
-walked-tells t = walk-tells (kindsOf (replicate 32 unknown) (itemsOf t)) 0 begin (itemsOf t)
+walked-tells t = walk-tells (kindsOf (replicate 32 Known.Unknown) (itemsOf t)) 0 begin (itemsOf t)
 
 verdict-tells : (size : ℕ) (t : Script) → Tells (verdict size t)
 unfolding verdict

@@ -4,9 +4,9 @@ use mathlib.Core.Path.{refl}
 use mathlib.Core.List.{List, _∷_, _++_}
 use lib.ListN.{replicate}
 use Rattle.state.specs.declared.Control.{Control}
-use Rattle.state.specs.declared.Control.the-variants.{None as noControl, Z}
+use Rattle.state.specs.declared.Control.the-variants as Control
 use Rattle.state.specs.declared.Offer.{Offer}
-use Rattle.state.specs.declared.Offer.the-variants.{Nothing as nothing, Done as done}
+use Rattle.state.specs.declared.Offer.the-variants as Offer
 use Rattle.safety.specs.Safety.{Reaches}
 use Rattle.safety.specs.Texts.{unwritten, unlike, stray, deep, loose, after-loop, after-sweep, after-tag}
 use Rattle.safety.specs.Texts.{after-if, after-copy}
@@ -14,7 +14,7 @@ use Rattle.safety.proofs.Opened.{all}
 
 -- n steps with no control and no offer
 abbrev quietly : ℕ → List (Control × Offer)
-quietly n = replicate n (noControl, nothing)
+quietly n = replicate n (Control.None, Offer.Nothing)
 
 pub reaches-60 : Reaches unwritten 20 2 1 (quietly 2) 60
 unfolding all
@@ -42,11 +42,11 @@ pub needs-loop : Reaches after-loop 20 5 2 (quietly 3) 60
 unfolding all
 needs-loop = record { formed = refl; breaks = refl; comes = refl }
 
-pub needs-sweep : Reaches after-sweep 20 5 3 (quietly 2 ++ (noControl, done) ∷ quietly 1) 60
+pub needs-sweep : Reaches after-sweep 20 5 3 (quietly 2 ++ (Control.None, Offer.Done) ∷ quietly 1) 60
 unfolding all
 needs-sweep = record { formed = refl; breaks = refl; comes = refl }
 
-pub needs-tag : Reaches after-tag 20 4 1 ((Z, nothing) ∷ quietly 1) 60
+pub needs-tag : Reaches after-tag 20 4 1 ((Control.Z, Offer.Nothing) ∷ quietly 1) 60
 unfolding all
 needs-tag = record { formed = refl; breaks = refl; comes = refl }
 

@@ -1,25 +1,23 @@
 -- What a caller is told, by the answers of the loader and of the checker.
 use Prim.Native.Nat.{ℕ}
-use mathlib.Core.Path.{_≡_, refl, sym, subst, _∙_}
+use mathlib.Core.Path.{_≡_, refl, sym, ap, subst, _∙_}
 use mathlib.Core.Bool.{Bool, true, false, cond}
 use mathlib.Core.List.{List}
 use lib.Dec.{eqb}
+use borrow.Author.Tests.{ne-eqb}
 use native.Mathlib.Omega.{arith}
 use lib.ListN.{length, take}
 use lib.Seq.{take-take}
 use Rattle.table.specs.declared.Script.{Script}
 use Rattle.argument.specs.declared.Refusal.{Refusal}
-use Rattle.argument.specs.declared.Refusal.the-variants.{TooLong as tooLong, NoEnd as noEnd, LongLine as longLine}
-use Rattle.argument.specs.declared.Refusal.the-variants.{TooManyItems as tooManyItems, UnknownCommand as unknownCommand}
-use Rattle.argument.specs.declared.Refusal.the-variants.{BadArguments as badArguments, Undeclared as undeclared}
-use Rattle.argument.specs.declared.Refusal.the-variants.{DeclaredTwice as declaredTwice, TooManyNames as tooManyNames}
 use Rattle.argument.specs.Refusal.{numberOf as formNumber}
-use Rattle.script.specs.declared.Answer.the-variants as form
+use Rattle.script.specs.declared.Answer.the-variants as Answer
 use Rattle.script.specs.declared.Loaded.{Loaded}
 use Rattle.script.specs.Load.{loaded, meaning as loadedMeaning}
+use Rattle.script.proofs.Walk.{not-zero}
 use Rattle.rules.specs.declared.Rule.{Rule}
 use Rattle.rules.specs.declared.Verdict.{Verdict as Judgement}
-use Rattle.rules.specs.declared.Verdict.the-variants as rule
+use Rattle.rules.specs.declared.Verdict.the-variants as Judgement
 use Rattle.rules.specs.Check.{Verdict, accepted, refused, verdict}
 use Rattle.rules.specs.Verdict.{numberOf as ruleNumber, meaning as verdictMeaning}
 use Rattle.state.specs.declared.Control.{Control}
@@ -33,40 +31,29 @@ use Rattle.machine.specs.Course.{runFrom, allTold, stepsOf, courseOf, allStay, 
 use Rattle.machine.proofs.Resting.{all-alike, alike-neat}
 use Rattle.table.specs.Shape.{itemsOf}
 use Rattle.safety.specs.Safety.{allAllowed}
-use Rattle.safety.specs.Outcome.{refusal, judged, checkedOutcome, outcome, Fixed}
+use Rattle.safety.specs.declared.Checked.{Checked}
+use Rattle.safety.specs.Outcome.{Outcome, refusal, judged, checkedOutcome, outcome, Fixed, meaning, ExactOutcome}
 use Rattle.safety.proofs.Safe.{answers-allowed}
 
 module _ (size : ℕ) (t : Script) (ps : List (Control × Offer)) (v : Judgement) (p : verdictMeaning v ≡ verdict size t)
   where
-    pub rules-yes : v ≡ rule.Accepted
+    pub rules-yes : v ≡ Judgement.Accepted
         → checkedOutcome size t ps ≡ record { number = 0; line = 0; course = runFrom size t fresh ps }
     unfolding checkedOutcome
     rules-yes e = rw (← p, e)
 
-    pub rules-no : (r : Rule) (k : ℕ) → v ≡ rule.Refused r k → checkedOutcome size t ps ≡ refusal (ruleNumber r) k
+    pub rules-no : (r : Rule) (k : ℕ) → v ≡ Judgement.Refused r k → checkedOutcome size t ps ≡ refusal (ruleNumber r) k
     unfolding checkedOutcome
     rules-no r k e = rw (← p, e)
 
-not-zero : (r : Refusal) → eqb (formNumber r) 0 ≡ false
-unfolding formNumber
-not-zero tooLong = refl
-not-zero noEnd = refl
-not-zero longLine = refl
-not-zero tooManyItems = refl
-not-zero unknownCommand = refl
-not-zero badArguments = refl
-not-zero undeclared = refl
-not-zero declaredTwice = refl
-not-zero tooManyNames = refl
-
 module _ (text : List ℕ) (ps : List (Control × Offer)) (l : Loaded) (p : loadedMeaning l ≡ loaded text) where
-  pub form-yes : l .answer ≡ form.Accepted → outcome text ps ≡ checkedOutcome (length text) (l .script) ps
+  pub form-yes : l .answer ≡ Answer.Accepted → outcome text ps ≡ checkedOutcome (length text) (l .script) ps
   unfolding outcome
   form-yes e = rw (← p, e)
 
-  pub form-no : (r : Refusal) (k : ℕ) → l .answer ≡ form.Refused r k → outcome text ps ≡ refusal (formNumber r) k
+  pub form-no : (r : Refusal) (k : ℕ) → l .answer ≡ Answer.Refused r k → outcome text ps ≡ refusal (formNumber r) k
   unfolding outcome
-  form-no r k e = rw (← p, e, not-zero r)
+  form-no r k e = rw (← p, e, ne-eqb (formNumber r) 0 (not-zero r))
 
 -- ---- the promise
 
@@ -88,6 +75,16 @@ promised text ps = go (eqb ((loaded text) .number) 0)
         (refusal ((loaded text) .number) ((loaded text) .line))) .course .answers) ≡ true
     go true = checked-allowed (length text) ((loaded text) .table) ps
     go false = refl
+
+-- an answer that says what it should, and leaves nothing else in it
+pub exact : {text : List ℕ} {ps : List (Control × Offer)} {r : Checked} → meaning r ≡ outcome text ps → Fixed (r .ran)
+    → ExactOutcome text ps r
+exact {text} {ps} said leaves =
+    record {
+      says = said;
+      allowed = ap (λ (o : Outcome). allAllowed (o .course .answers)) said ∙ promised text ps;
+      fixed = leaves;
+    }
 
 -- ---- the run
 

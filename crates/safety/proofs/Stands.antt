@@ -8,10 +8,10 @@ use native.Mathlib.Omega.{arith}
 use lib.Dec.{ltb, leb}
 use lib.ListN.{length}
 use borrow.Author.Tests.{leb-false, ne-eqb, eq-eqb, lt-ltb, le-leb}
+use Rattle.laws.proofs.Lists.{drop-getD}
 use Rattle.table.specs.declared.Head.{Head}
 use Rattle.table.specs.declared.Item.{Item}
-use Rattle.table.specs.declared.Item.the-variants.{Act as act, Pack as pack, Open as opens, Branch as branch}
-use Rattle.table.specs.declared.Item.the-variants.{Close as closes, Break as breakloop, Tag as tag}
+use Rattle.table.specs.declared.Item.the-variants as Item
 use Rattle.table.specs.Item.{isOpen, isLoop, opensA}
 use Rattle.table.specs.Uses.{gives, Kinds, kindAt, Names}
 use Rattle.mates.specs.declared.Open.{Open}
@@ -22,7 +22,7 @@ use Rattle.rules.proofs.Writes.{learns}
 use Rattle.state.specs.State.{Status, live, finishedRun, stoppedRun, faultRun, Run}
 use Rattle.machine.specs.Machine.{outside, isNone, opensOk, runOk}
 use Rattle.safety.specs.Safety.{isCode}
-use Rattle.safety.proofs.Laws.{no, no′, and-t, drop-getD}
+use Rattle.safety.proofs.Laws.{no, no′, and-t}
 use Rattle.safety.proofs.Walk.{textKinds, Accepted, state, Reach, clean, reach-kinds}
 use Rattle.safety.proofs.Boxes.{erase, Below, Heads}
 use Rattle.safety.proofs.Sure.{Within, learn-up}
@@ -86,13 +86,13 @@ module _ {names size : ℕ} {items : List Item} (ok : Accepted names size items)
   -- ---- a run that stands so is in shape
 
   head-ok : {i : ℕ} {su : Names} {l : List Box} {p tg : Bool} {k : Kinds} {h : Head} {ys : List Item}
-      → Reach items i (state su l p tg) k (opens h ∷ ys)
+      → Reach items i (state su l p tg) k (Item.Open h ∷ ys)
       → (ltb i (length items) && isOpen (itemAt items i) && not (isNone (closeOf items i))) ≡ true
   head-ok {i} {h = h} {ys = ys} r =
       let s = static ok r in
       rw (
         lt-ltb i (length items) (omega (arith, s .span)),
-        drop-getD i items tag (opens h) ys (s .text),
+        drop-getD i items Item.Tag (Item.Open h) ys (s .text),
         (close-head ok r) .is,
       )
 
@@ -111,19 +111,19 @@ module _ {names size : ℕ} {items : List Item} (ok : Accepted names size items)
         heads-ok i (erase l) xs tg l (s .heads),
       )
   opens-ok [] ps r (inr q) = no′ (q .1)
-  opens-ok {i} {l = l} {tg = tg} (opens h ∷ xs) ps r (inr q) =
+  opens-ok {i} {l = l} {tg = tg} (Item.Open h ∷ xs) ps r (inr q) =
       let s = static ok r in
       rw (q .0) (
         le-leb (suc (length (positions l))) 8
             (omega (arith, length-positions l, leb-false 8 (length l) ((clean ok r) .eighth))),
-        and-t (head-ok r) (heads-ok i (erase l) (opens h ∷ xs) tg l (s .heads)),
+        and-t (head-ok r) (heads-ok i (erase l) (Item.Open h ∷ xs) tg l (s .heads)),
       )
-  opens-ok (act a ∷ xs) ps r (inr q) = no′ (q .1)
-  opens-ok (pack a ∷ xs) ps r (inr q) = no′ (q .1)
-  opens-ok (branch a ∷ xs) ps r (inr q) = no′ (q .1)
-  opens-ok (closes a ∷ xs) ps r (inr q) = no′ (q .1)
-  opens-ok (breakloop ∷ xs) ps r (inr q) = no′ (q .1)
-  opens-ok (tag ∷ xs) ps r (inr q) = no′ (q .1)
+  opens-ok (Item.Act a ∷ xs) ps r (inr q) = no′ (q .1)
+  opens-ok (Item.Pack a ∷ xs) ps r (inr q) = no′ (q .1)
+  opens-ok (Item.Branch a ∷ xs) ps r (inr q) = no′ (q .1)
+  opens-ok (Item.Close a ∷ xs) ps r (inr q) = no′ (q .1)
+  opens-ok (Item.Break ∷ xs) ps r (inr q) = no′ (q .1)
+  opens-ok (Item.Tag ∷ xs) ps r (inr q) = no′ (q .1)
 
   module _ {m : Run} {su : Names} {l : List Box} {p tg : Bool} {k : Kinds} where
     pub shape-of : {xs : List Item} → Here m su l p tg k xs → runOk items m ≡ true

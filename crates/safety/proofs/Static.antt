@@ -5,12 +5,13 @@ use mathlib.Core.List.{List}
 use native.Mathlib.Nat.{zero-add}
 use native.Mathlib.Omega.{arith}
 use lib.ListN.{length, drop}
+use Rattle.laws.proofs.Lists.{drop-step}
 use Rattle.table.specs.declared.Item.{Item}
 use Rattle.table.specs.Uses.{gives, Kinds}
 use Rattle.mates.specs.declared.Open.{Open}
 use Rattle.mates.specs.Mates.{scan, boxesAt}
 use Rattle.rules.proofs.Placed.{Placed, after}
-use Rattle.safety.proofs.Laws.{drop-step, not-nothing}
+use Rattle.safety.proofs.Laws.{not-nothing}
 use Rattle.safety.proofs.Walk.{Accepted, Reach, outset, more, clean, item-ok}
 use Rattle.safety.proofs.Boxes.{erase, Below, Heads, boxes-next, erase-after, below-after, few-after}
 use Rattle.safety.proofs.Boxes.{heads-after}

@@ -7,25 +7,24 @@ use mathlib.Core.List.{List, [], _∷_}
 use mathlib.Core.Option.{Option, none, some}
 use native.Mathlib.Omega.{arith}
 use lib.ListN.{length, drop}
-use borrow.Author.Tests.{le-leb}
+use borrow.Author.Tests.{le-leb, not-true}
 use Rattle.table.specs.declared.Item.{Item}
-use Rattle.table.specs.declared.Item.the-variants.{Act as act, Pack as pack, Open as opens, Branch as branch}
-use Rattle.table.specs.declared.Item.the-variants.{Close as closes, Break as breakloop, Tag as tag}
+use Rattle.table.specs.declared.Item.the-variants as Item
 use Rattle.table.specs.Item.{isSweep}
 use Rattle.table.specs.Uses.{Kinds, Names, lowest}
 use Rattle.rules.specs.Check.{isEmpty}
 use Rattle.rules.proofs.Placed.{Box, Placed, plains}
 use Rattle.state.specs.declared.Control.{Control}
-use Rattle.state.specs.declared.Control.the-variants.{None as noControl, Z, Y}
+use Rattle.state.specs.declared.Control.the-variants as Control
 use Rattle.state.specs.declared.Offer.{Offer}
-use Rattle.state.specs.declared.Offer.the-variants.{Nothing as nothing, Float as oneFloat, Point as onePoint}
-use Rattle.state.specs.declared.Offer.the-variants.{Done as done}
+use Rattle.state.specs.declared.Offer.the-variants as Offer
 use Rattle.state.specs.State.{Run, Out, Step, said, Meets, ready, short, amiss, wantsNothing, wantedBy, meets, cleared}
+use Rattle.state.specs.State.{flagged}
 use Rattle.machine.specs.Machine.{isEmpty as noneOpen, anyOpen, leaveOuts, isNone, next, run, served, finish, atItem}
 use Rattle.machine.specs.Machine.{told, tagFrom, ahead, abortDue, aborted, moved, runOk}
 use Rattle.safety.specs.Safety.{wantedFrom, wantedAt, isAmiss}
 use Rattle.machine.proofs.Stepping.{ahead-is}
-use Rattle.safety.proofs.Laws.{no, no′, or-r, and-r, not-t, not-nothing}
+use Rattle.safety.proofs.Laws.{no, no′, or-r, and-r, not-nothing}
 use Rattle.safety.proofs.Walk.{Accepted, state, Reach, outset, more, clean, ends}
 use Rattle.safety.proofs.Static.{static}
 use Rattle.safety.proofs.Names.{cells-ok}
@@ -40,10 +39,10 @@ isShort amiss = false
 
 -- where nothing is wanted there is no wait
 quiet-short : (o : Offer) → isShort (meets wantsNothing o) ≡ false
-quiet-short nothing = refl
-quiet-short (oneFloat x) = refl
-quiet-short (onePoint p) = refl
-quiet-short done = refl
+quiet-short Offer.Nothing = refl
+quiet-short (Offer.Float x) = refl
+quiet-short (Offer.Point p) = refl
+quiet-short Offer.Done = refl
 
 module _ {names size : ℕ} {items : List Item} (ok : Accepted names size items) where
   -- a step of a run m that lives: made where the offer is what is wanted; m₁ is the run with the control, which a wait
@@ -81,20 +80,20 @@ module _ {names size : ℕ} {items : List Item} (ok : Accepted names size items)
     s : Placed
     k : Kinds
     ys : List Item
-    reach : Reach items i s k (tag ∷ ys)
+    reach : Reach items i s k (Item.Tag ∷ ys)
 
   find-tag : (xs : List Item) (j : ℕ) {s : Placed} {k : Kinds} (i : ℕ) → Reach items j s k xs → tagFrom j xs ≡ some i
       → Tagged i
   find-tag [] j i r e = no (ap isNone e)
-  find-tag (tag ∷ xs) j {s} {k} i r e =
+  find-tag (Item.Tag ∷ xs) j {s} {k} i r e =
       let q : j ≡ i = cc in
       rw (← q) (record { s = s; k = k; ys = xs; reach = r })
-  find-tag (act a ∷ xs) j i r e = find-tag xs (suc j) i (more r) e
-  find-tag (pack a ∷ xs) j i r e = find-tag xs (suc j) i (more r) e
-  find-tag (opens a ∷ xs) j i r e = find-tag xs (suc j) i (more r) e
-  find-tag (branch a ∷ xs) j i r e = find-tag xs (suc j) i (more r) e
-  find-tag (closes a ∷ xs) j i r e = find-tag xs (suc j) i (more r) e
-  find-tag (breakloop ∷ xs) j i r e = find-tag xs (suc j) i (more r) e
+  find-tag (Item.Act a ∷ xs) j i r e = find-tag xs (suc j) i (more r) e
+  find-tag (Item.Pack a ∷ xs) j i r e = find-tag xs (suc j) i (more r) e
+  find-tag (Item.Open a ∷ xs) j i r e = find-tag xs (suc j) i (more r) e
+  find-tag (Item.Branch a ∷ xs) j i r e = find-tag xs (suc j) i (more r) e
+  find-tag (Item.Close a ∷ xs) j i r e = find-tag xs (suc j) i (more r) e
+  find-tag (Item.Break ∷ xs) j i r e = find-tag xs (suc j) i (more r) e
 
   none-open : (tg : Bool) (l : List Box) → (true && (tg || not (isEmpty (plains l)))) ≡ false → l ≡ []
   none-open tg [] e = refl
@@ -152,7 +151,7 @@ module _ {names size : ℕ} {items : List Item} (ok : Accepted names size items)
           boxes : g .s .boxes ≡ []
           boxes = none-open (g .s .tagged) (g .s .boxes) ((clean ok (g .reach)) .tagged)
 
-          at-tag : Reach items i (state (g .s .sure) [] false (g .s .tagged)) (g .k) (tag ∷ g .ys)
+          at-tag : Reach items i (state (g .s .sure) [] false (g .s .tagged)) (g .k) (Item.Tag ∷ g .ys)
           at-tag = rw (boxes, (clean ok (g .reach)) .packed) at (g .reach)
 
       abort-comes : (f : Option ℕ) → ahead (m .at) (tagFrom 0 items) ≡ f → m .packed ≡ false
@@ -169,30 +168,25 @@ module _ {names size : ℕ} {items : List Item} (ok : Accepted names size items)
               (atItem items m₀ m o (drop (m .at) items)))
           go true e =
               abort-comes (ahead (m .at) (tagFrom 0 items)) refl
-              (not-t (m .packed) (and-r (m .pending && not (anyOpen isSweep items (m .boxes))) (not (m .packed)) e))
+              (not-true (m .packed) (and-r (m .pending && not (anyOpen isSweep items (m .boxes))) (not (m .packed)) e))
           go false e = rw ((static ok (h .reach)) .text) (item-comes xs h)
 
-  -- the control moves nothing
+  -- the flags move nothing, and so the control moves nothing
+  flagged-here : {m : Run} (a b : Bool) {su : Names} {l : List Box} {p tg : Bool} {k : Kinds} {xs : List Item}
+      → Here ok m su l p tg k xs → Here ok (flagged m a b) su l p tg k xs
+  flagged-here a b h =
+      record {
+        reach = h .reach;
+        boxes = h .boxes;
+        packed = h .packed;
+        cover = h .cover;
+        covers = h .covers;
+        vars = h .vars;
+        living = h .living;
+      }
+
   pub told-here : {m : Run} (c : Control) {su : Names} {l : List Box} {p tg : Bool} {k : Kinds} {xs : List Item}
       → Here ok m su l p tg k xs → Here ok (told items m c) su l p tg k xs
-  told-here noControl h = h
-  told-here Z h =
-      record {
-        reach = h .reach;
-        boxes = h .boxes;
-        packed = h .packed;
-        cover = h .cover;
-        covers = h .covers;
-        vars = h .vars;
-        living = h .living;
-      }
-  told-here Y h =
-      record {
-        reach = h .reach;
-        boxes = h .boxes;
-        packed = h .packed;
-        cover = h .cover;
-        covers = h .covers;
-        vars = h .vars;
-        living = h .living;
-      }
+  told-here {m} Control.None h = h
+  told-here {m} Control.Z h = flagged-here true (m .skip) h
+  told-here {m} Control.Y h = flagged-here (m .pending) (m .skip || anyOpen isSweep items (m .boxes)) h

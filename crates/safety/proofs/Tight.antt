@@ -5,18 +5,17 @@ use mathlib.Core.Bool.{cond}
 use mathlib.Core.List.{List}
 use lib.Dec.{eqb, ltb}
 use Rattle.argument.specs.declared.Refusal.{Refusal}
-use Rattle.argument.specs.declared.Refusal.the-variants.{TooLong, NoEnd, LongLine, TooManyItems, UnknownCommand}
-use Rattle.argument.specs.declared.Refusal.the-variants.{BadArguments, Undeclared, DeclaredTwice, TooManyNames}
+use Rattle.argument.specs.declared.Refusal.the-variants as Refusal
 use Rattle.argument.specs.Refusal.{numberOf as formNumber}
-use Rattle.rules.specs.declared.Rule.{Rule}
-use Rattle.rules.specs.declared.Rule.the-variants.{Kinds, Unwritten, Mark, Ninth, Package, Tag, SameName, Nested, Shape}
+use Rattle.rules.proofs.Tight.{ruleOf}
+use Rattle.rules.specs.declared.Rule.the-variants as Rule
 use Rattle.machine.specs.declared.Steps.{Steps}
 use Rattle.machine.specs.declared.Ran.{Ran}
 use Rattle.machine.specs.Course.{Course, stepsOf, courseOf}
 use Rattle.state.proofs.Tight.{same-state}
 use Rattle.machine.proofs.Tight.{SizedRun, same-ran}
 use Rattle.safety.specs.declared.Judged.{Judged}
-use Rattle.safety.specs.declared.Judged.the-variants as judged
+use Rattle.safety.specs.declared.Judged.the-variants as Judged
 use Rattle.safety.specs.declared.Checked.{Checked}
 use Rattle.safety.specs.Outcome.{Outcome, ExactOutcome, numberOf, lineOf, meaning}
 
@@ -24,50 +23,39 @@ use Rattle.safety.specs.Outcome.{Outcome, ExactOutcome, numberOf, lineOf
 
 formOf : ℕ → Refusal
 formOf n =
-    cond (eqb n 10) TooLong
-    (cond (eqb n 11) NoEnd
-    (cond (eqb n 12) LongLine
-    (cond (eqb n 13) TooManyItems
-    (cond (eqb n 14) UnknownCommand
-    (cond (eqb n 15) BadArguments
-    (cond (eqb n 16) Undeclared
-    (cond (eqb n 17) DeclaredTwice TooManyNames)))))))
-
-ruleOf : ℕ → Rule
-ruleOf n =
-    cond (eqb n 19) Kinds
-    (cond (eqb n 20) Unwritten
-    (cond (eqb n 21) Mark
-    (cond (eqb n 22) Ninth
-    (cond (eqb n 23) Package
-    (cond (eqb n 24) Tag
-    (cond (eqb n 25) SameName
-    (cond (eqb n 26) Nested Shape)))))))
+    cond (eqb n 10) Refusal.TooLong
+    (cond (eqb n 11) Refusal.NoEnd
+    (cond (eqb n 12) Refusal.LongLine
+    (cond (eqb n 13) Refusal.TooManyItems
+    (cond (eqb n 14) Refusal.UnknownCommand
+    (cond (eqb n 15) Refusal.BadArguments
+    (cond (eqb n 16) Refusal.Undeclared
+    (cond (eqb n 17) Refusal.DeclaredTwice Refusal.TooManyNames)))))))
 
 judgedOf : ℕ → ℕ → Judged
-judgedOf n k = cond (eqb n 0) judged.Accepted (cond (ltb n 19) (judged.Form (formOf n) k) (judged.Rules (ruleOf n) k))
+judgedOf n k = cond (eqb n 0) Judged.Accepted (cond (ltb n 19) (Judged.Form (formOf n) k) (Judged.Rules (ruleOf n) k))
 
 judged-back : (j : Judged) → judgedOf (numberOf j) (lineOf j) ≡ j
-unfolding judgedOf formOf ruleOf formNumber
-judged-back judged.Accepted = refl
-judged-back (judged.Form TooLong k) = refl
-judged-back (judged.Form NoEnd k) = refl
-judged-back (judged.Form LongLine k) = refl
-judged-back (judged.Form TooManyItems k) = refl
-judged-back (judged.Form UnknownCommand k) = refl
-judged-back (judged.Form BadArguments k) = refl
-judged-back (judged.Form Undeclared k) = refl
-judged-back (judged.Form DeclaredTwice k) = refl
-judged-back (judged.Form TooManyNames k) = refl
-judged-back (judged.Rules Kinds k) = refl
-judged-back (judged.Rules Unwritten k) = refl
-judged-back (judged.Rules Mark k) = refl
-judged-back (judged.Rules Ninth k) = refl
-judged-back (judged.Rules Package k) = refl
-judged-back (judged.Rules Tag k) = refl
-judged-back (judged.Rules SameName k) = refl
-judged-back (judged.Rules Nested k) = refl
-judged-back (judged.Rules Shape k) = refl
+unfolding judgedOf formOf formNumber
+judged-back Judged.Accepted = refl
+judged-back (Judged.Form Refusal.TooLong k) = refl
+judged-back (Judged.Form Refusal.NoEnd k) = refl
+judged-back (Judged.Form Refusal.LongLine k) = refl
+judged-back (Judged.Form Refusal.TooManyItems k) = refl
+judged-back (Judged.Form Refusal.UnknownCommand k) = refl
+judged-back (Judged.Form Refusal.BadArguments k) = refl
+judged-back (Judged.Form Refusal.Undeclared k) = refl
+judged-back (Judged.Form Refusal.DeclaredTwice k) = refl
+judged-back (Judged.Form Refusal.TooManyNames k) = refl
+judged-back (Judged.Rules Rule.Kinds k) = refl
+judged-back (Judged.Rules Rule.Unwritten k) = refl
+judged-back (Judged.Rules Rule.Mark k) = refl
+judged-back (Judged.Rules Rule.Ninth k) = refl
+judged-back (Judged.Rules Rule.Package k) = refl
+judged-back (Judged.Rules Rule.Tag k) = refl
+judged-back (Judged.Rules Rule.SameName k) = refl
+judged-back (Judged.Rules Rule.Nested k) = refl
+judged-back (Judged.Rules Rule.Shape k) = refl
 
 -- ---- the whole answer
 

@@ -6,15 +6,15 @@ use mathlib.Core.List.{List, [], _∷_}
 use native.Mathlib.Omega.{arith}
 use lib.Dec.{ltb, leb}
 use lib.ListN.{length, replicate}
-use borrow.Author.Tests.{ltb-true}
+use borrow.Author.Tests.{ltb-true, not-false}
 use Rattle.table.specs.declared.Operand.{Operand}
 use Rattle.table.specs.declared.Branch.{Branch}
 use Rattle.table.specs.declared.Close.{Close}
 use Rattle.table.specs.declared.Item.{Item}
-use Rattle.table.specs.declared.Item.the-variants.{Branch as branch, Close as closes}
-use Rattle.table.specs.declared.Known.the-variants.{Unknown as unknown}
+use Rattle.table.specs.declared.Item.the-variants as Item
+use Rattle.table.specs.declared.Known.the-variants as Known
 use Rattle.table.specs.declared.Give.{Give}
-use Rattle.table.specs.declared.Give.the-variants.{Like as like, Float as float}
+use Rattle.table.specs.declared.Give.the-variants as Give
 use Rattle.table.specs.Item.{isOpen, isTag, fits}
 use Rattle.table.specs.Uses.{uses, gives, Kinds, kindAt, wrong, wrongGive, Names, has, missing, breaksOrder, lowest}
 use Rattle.table.specs.Shape.{operandOk, wantsOk, givesOk, ownOk, itemOk, itemsOk}
@@ -22,11 +22,11 @@ use Rattle.rules.specs.Check.{learn, kindsOf, State, begin, isEmpty, base, misp
 use Rattle.rules.specs.Check.{accepted, orGo, walk}
 use Rattle.rules.proofs.Placed.{Box, Placed, atStart, plains, bare, length-plains, after, same-walk}
 use Rattle.rules.proofs.Writes.{learns}
-use Rattle.safety.proofs.Laws.{or-l, or-r, and-l, and-r, not-f, skip}
+use Rattle.safety.proofs.Laws.{or-l, or-r, and-l, and-r, skip}
 
 -- the kinds of the whole text
 abbrev pub textKinds : List Item → Kinds
-textKinds items = kindsOf (replicate 32 unknown) items
+textKinds items = kindsOf (replicate 32 Known.Unknown) items
 
 -- the items of a script that the checker accepts
 pub record Accepted (names size : ℕ) (items : List Item) : Type 0 where
@@ -40,7 +40,7 @@ state su l p tg = record { sure = su; boxes = l; packed = p; tagged = tg }
 
 -- s is the state before item i, k the kinds from the items before it, xs the items from there on
 pub data Reach (items : List Item) : ℕ → Placed → Kinds → List Item → Type 0 where
-  outset : Reach items 0 atStart (replicate 32 unknown) items
+  outset : Reach items 0 atStart (replicate 32 Known.Unknown) items
   more : {i : ℕ} {s : Placed} {k : Kinds} {x : Item} {xs : List Item} → Reach items i s k (x ∷ xs)
       → Reach items (suc i) (after i s x) (learn k (gives x)) xs
 
@@ -78,16 +78,17 @@ orGo-accepted zero i v e = (refl, e)
 orGo-accepted (suc n) i v e = (cc, cc)
 
 -- a closing or branch mark that is placed is of its box's sort
-pub closes-fits : (e : Close) (b : Box) (bs : List Box) → misplaced (closes e) (plains (b ∷ bs)) ≡ false
-    → fits (closes e) (b .sort) ≡ true
+pub closes-fits : (e : Close) (b : Box) (bs : List Box) → misplaced (Item.Close e) (plains (b ∷ bs)) ≡ false
+    → fits (Item.Close e) (b .sort) ≡ true
 closes-fits e b bs h =
-    not-f _ (or-l (not (fits (closes e) (b .sort))) false (or-l (not (fits (closes e) (b .sort)) || false) false h))
+    not-false _ (or-l (not (fits (Item.Close e) (b .sort))) false
+    (or-l (not (fits (Item.Close e) (b .sort)) || false) false h))
 
-pub branch-fits : (c : Branch) (b : Box) (bs : List Box) → misplaced (branch c) (plains (b ∷ bs)) ≡ false
-    → fits (branch c) (b .sort) ≡ true
+pub branch-fits : (c : Branch) (b : Box) (bs : List Box) → misplaced (Item.Branch c) (plains (b ∷ bs)) ≡ false
+    → fits (Item.Branch c) (b .sort) ≡ true
 branch-fits c b bs h =
-    not-f _ (or-l (not (fits (branch c) (b .sort))) (b .elseSeen)
-    (or-l (not (fits (branch c) (b .sort)) || b .elseSeen) false h))
+    not-false _ (or-l (not (fits (Item.Branch c) (b .sort))) (b .elseSeen)
+    (or-l (not (fits (Item.Branch c) (b .sort)) || b .elseSeen) false h))
 
 -- ---- of an accepted script
 
@@ -123,7 +124,7 @@ module _ {names size : ℕ} {items : List Item} (ok : Accepted names size items)
   ends {i} {s} {k} r =
       let a = skip 20 _ _ ((orGo-accepted (lowest (refusalsAtEnd (bare s))) i _ (reach-walk r)) .0) in
       let b = skip 22 _ _ (a .1) in
-      (not-f (isEmpty (plains (s .boxes))) (a .0), b .0)
+      (not-false (isEmpty (plains (s .boxes))) (a .0), b .0)
 
   name-below : (n : ℕ) → ltb n names ≡ true → n < 32
   name-below n h = omega (arith, ltb-true n names h, ok .few)
@@ -131,8 +132,8 @@ module _ {names size : ℕ} {items : List Item} (ok : Accepted names size items)
   pub gives-ok : (x : Item) → itemOk names size x ≡ true → givesOk names (gives x) ≡ true
   gives-ok x h = and-r (ownOk names size x && wantsOk names (uses x)) (givesOk names (gives x)) h
 
-  pub like-below : (v : ℕ) (x : Operand) → givesOk names (like v x ∷ []) ≡ true → v < 32
+  pub like-below : (v : ℕ) (x : Operand) → givesOk names (Give.Like v x ∷ []) ≡ true → v < 32
   like-below v x h = name-below v (and-l (ltb v names) (operandOk names x) h)
 
-  pub float-below : (v : ℕ) (gs : List Give) → givesOk names (float v ∷ gs) ≡ true → v < 32
+  pub float-below : (v : ℕ) (gs : List Give) → givesOk names (Give.Float v ∷ gs) ≡ true → v < 32
   float-below v gs h = name-below v (and-r (givesOk names gs) (ltb v names) h)

@@ -20,7 +20,7 @@ use Rattle.machine.specs.Course.{Course, runFrom, courseOf, BlankRun}
 use Rattle.machine.specs.Parts.{followed, Call, Called, stepsOfAll, courseOfAll}
 use Rattle.safety.specs.Safety.{Promises, allAllowed}
 use Rattle.safety.specs.declared.Judged.{Judged}
-use Rattle.safety.specs.declared.Judged.the-variants.{Accepted, Form, Rules}
+use Rattle.safety.specs.declared.Judged.the-variants as Judged
 use Rattle.safety.specs.declared.Checked.{Checked}
 
 -- 01's number and line, both 0 where the script is accepted
@@ -52,14 +52,14 @@ outcome text ps =
 -- ---- what the code's answer stands for
 
 abbrev pub numberOf : Judged → ℕ
-numberOf Accepted = 0
-numberOf (Form r k) = formNumber r
-numberOf (Rules r k) = ruleNumber r
+numberOf Judged.Accepted = 0
+numberOf (Judged.Form r k) = formNumber r
+numberOf (Judged.Rules r k) = ruleNumber r
 
 abbrev pub lineOf : Judged → ℕ
-lineOf Accepted = 0
-lineOf (Form r k) = k
-lineOf (Rules r k) = k
+lineOf Judged.Accepted = 0
+lineOf (Judged.Form r k) = k
+lineOf (Judged.Rules r k) = k
 
 abbrev pub meaning : Checked → Outcome
 meaning r = record { number = numberOf (r .judged); line = lineOf (r .judged); course = courseOf (r .ran) }

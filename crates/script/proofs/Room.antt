@@ -1,12 +1,12 @@
 -- Where a line declares a name there is room for it. Assumes nothing.
-use mathlib.Core.Path.{_≡_, refl, sym, _∙_, ap}
+use mathlib.Core.Path.{_≡_, refl, sym, _∙_, ap, ap₂}
 use mathlib.Core.Bool.{Bool, true, false, cond}
-use mathlib.Core.List.{List, [], _∷_}
+use mathlib.Core.List.{List, map}
 use mathlib.Core.Option.{Option, none, some}
-use Prim.Native.Nat.{ℕ, zero, suc, _+_, _≤_, _<_}
+use Prim.Native.Nat.{ℕ, _+_, _≤_, _<_}
 use native.Mathlib.Omega.{arith}
 use lib.Dec.{ltb}
-use lib.ListN.{length, getD}
+use lib.ListN.{length, getD, List·getD-map}
 use borrow.Author.Tests.{ltb-true}
 use Rattle.table.specs.declared.Item.{Item}
 use Rattle.table.specs.declared.Script.{Script}
@@ -35,117 +35,29 @@ isNew F.Number = false
 isNew F.Comparison = false
 isNew F.Text = false
 
+-- what two columns of the table of commands have alike as wholes, they have alike in each row
+pub in-row : {B : Type 0} (f g : Command → B) (k : ℕ) → map f commands ≡ map g commands → f tagCommand ≡ g tagCommand
+    → f (commandAt k) ≡ g (commandAt k)
+unfolding commandAt
+in-row {B} f g k e d =
+    sym (List·getD-map f commands k tagCommand)
+    ∙ ap₂ (λ (l : List B) (b : B). getD l k b) e d
+    ∙ List·getD-map g commands k tagCommand
+
 -- an item declares a name exactly where its command asks for a new one
-abbrev pub Right : Command → Type 0
-Right c = (x : Arguments) → declares (itemOf (c .make) x) ≡ isNew (formOf (getD (c .shape) 0 0))
-
-abbrev All : List Command → Type 0
-All [] = Unit {0}
-All (c ∷ cs) = Right c × All cs
-
-all : All commands
+pub right : (k : ℕ) (x : Arguments)
+    → declares (itemOf (commandAt k .make) x) ≡ isNew (formOf (getD (commandAt k .shape) 0 0))
 unfolding commands tagCommand isNew formOf padded
-all = (
-  λ x. refl,
-  (
-    λ x. refl,
-    (
-      λ x. refl,
-      (
-        λ x. refl,
-        (
-          λ x. refl,
-          (
-            λ x. refl,
-            (
-              λ x. refl,
-              (
-                λ x. refl,
-                (
-                  λ x. refl,
-                  (
-                    λ x. refl,
-                    (
-                      λ x. refl,
-                      (
-                        λ x. refl,
-                        (
-                          λ x. refl,
-                          (
-                            λ x. refl,
-                            (
-                              λ x. refl,
-                              (
-                                λ x. refl,
-                                (
-                                  λ x. refl,
-                                  (
-                                    λ x. refl,
-                                    (
-                                      λ x. refl,
-                                      (
-                                        λ x. refl,
-                                        (
-                                          λ x. refl,
-                                          (
-                                            λ x. refl,
-                                            (
-                                              λ x. refl,
-                                              (
-                                                λ x. refl,
-                                                (
-                                                  λ x. refl,
-                                                  (
-                                                    λ x. refl,
-                                                    (
-                                                      λ x. refl,
-                                                      (
-                                                        λ x. refl,
-                                                        (
-                                                          λ x. refl,
-                                                          tt,
-                                                        ),
-                                                      ),
-                                                    ),
-                                                  ),
-                                                ),
-                                              ),
-                                            ),
-                                          ),
-                                        ),
-                                      ),
-                                    ),
-                                  ),
-                                ),
-                              ),
-                            ),
-                          ),
-                        ),
-                      ),
-                    ),
-                  ),
-                ),
-              ),
-            ),
-          ),
-        ),
-      ),
-    ),
-  ),
-)
+right k x =
+    in-row (λ c. declares (itemOf (c .make) x)) (λ c. isNew (formOf (getD (c .shape) 0 0))) k refl refl
 
-at-row : (cs : List Command) (d : Command) → All cs → Right d → (k : ℕ) → Right (getD cs k d)
-at-row [] d h g k = g
-at-row (c ∷ cs) d h g zero = h .0
-at-row (c ∷ cs) d h g (suc k) = at-row cs d (h .1) g k
-
-pub right : (k : ℕ) → Right (commandAt k)
-unfolding commandAt commands tagCommand isNew formOf padded
-right k = at-row commands tagCommand all (λ x. refl) k
+-- two constructors are never one
+pub apart : {X : Type 0} → _≡_ {A = ℕ} 0 1 → X
+apart z = absurd (omega arith)
 
 -- nothing is wrong, so no number is given
 pub never : {X : Type 0} {n : ℕ} → _≡_ {A = Option ℕ} (some n) none → X
-never e = let z : _≡_ {A = ℕ} 0 1 = cc in absurd (omega arith)
+never e = apart cc
 
 new-room : (names : List (List ℕ)) (w : List ℕ) → wrongOf (newSaid names w) ≡ none → length names < 32
 unfolding newSaid
@@ -176,14 +88,14 @@ first-new : (names : List (List ℕ)) (line : List ℕ) (i : ℕ) (f : Form) →
     → wrongOf (saidAt names line f i .argument) ≡ none → length names < 32
 unfolding isNew saidAt said
 first-new names line i F.New e h = new-room names (part line (wordAt line i)) h
-first-new names line i F.Nothing e h = let z : _≡_ {A = ℕ} 0 1 = cc in absurd (omega arith)
-first-new names line i F.Name e h = let z : _≡_ {A = ℕ} 0 1 = cc in absurd (omega arith)
-first-new names line i F.Operand e h = let z : _≡_ {A = ℕ} 0 1 = cc in absurd (omega arith)
-first-new names line i F.Literal e h = let z : _≡_ {A = ℕ} 0 1 = cc in absurd (omega arith)
-first-new names line i F.Letters e h = let z : _≡_ {A = ℕ} 0 1 = cc in absurd (omega arith)
-first-new names line i F.Number e h = let z : _≡_ {A = ℕ} 0 1 = cc in absurd (omega arith)
-first-new names line i F.Comparison e h = let z : _≡_ {A = ℕ} 0 1 = cc in absurd (omega arith)
-first-new names line i F.Text e h = let z : _≡_ {A = ℕ} 0 1 = cc in absurd (omega arith)
+first-new names line i F.Nothing e h = apart cc
+first-new names line i F.Name e h = apart cc
+first-new names line i F.Operand e h = apart cc
+first-new names line i F.Literal e h = apart cc
+first-new names line i F.Letters e h = apart cc
+first-new names line i F.Number e h = apart cc
+first-new names line i F.Comparison e h = apart cc
+first-new names line i F.Text e h = apart cc
 
 unfoldable pub item-of : Judgement → Item → Item
 item-of (item it) d = it
@@ -196,7 +108,7 @@ unfolding judged argumentsAt item-of
 room names line i it e d = go (seek commandWords (part line (wordAt line i))) e
   where
     go : (f : Found) → byCommand names line (wordAt line i .end) f ≡ item it → length names < 32
-    go At.Nothing e = let z : _≡_ {A = ℕ} 0 1 = cc in absurd (omega arith)
+    go At.Nothing e = apart cc
     go (At.At k) e = by (lowest x) refl e
       where
         x : Arguments
@@ -204,7 +116,7 @@ room names line i it e d = go (seek commandWords (part line (wordAt line i))) e
 
         by : (t : Option ℕ) → lowest x ≡ t → orItem t (itemOf (commandAt k .make) x) ≡ item it
             → length names < 32
-        by (some n) q e = let z : _≡_ {A = ℕ} 0 1 = cc in absurd (omega arith)
+        by (some n) q e = apart cc
         by none q e =
             let same : itemOf (commandAt k .make) x ≡ it = ap (λ (j : Judgement). item-of j it) e in
             let new : isNew (formOf (getD (commandAt k .shape) 0 0)) ≡ true = sym (right k x) ∙ ap declares same ∙ d in

@@ -10,14 +10,14 @@ use lib.ListN.{length, drop, getD}
 use borrow.Author.Tests.{lt-ltb, le-leb, ltb-true}
 use Rattle.text.specs.Cut.{before}
 use Rattle.value.specs.declared.Literal.{Literal}
-use Rattle.value.specs.declared.Literal.the-variants.{Value as good, Bad as bad}
+use Rattle.value.specs.declared.Literal.the-variants as Literal
 use Rattle.value.specs.Arithmetic.{finite}
 use Rattle.value.specs.Literal.{literal}
 use Rattle.value.proofs.Finite.{Sound, literal-sound}
 use Rattle.table.specs.Shape.{operandOk, inside}
 use Rattle.word.specs.declared.Found.{Found}
 use Rattle.word.specs.declared.Found.the-variants as At
-use Rattle.word.specs.declared.Class.the-variants.{Blank}
+use Rattle.word.specs.declared.Class.the-variants as Class
 use Rattle.word.specs.declared.TypeName.{TypeName}
 use Rattle.word.specs.declared.TypeName.the-variants as Ty
 use Rattle.word.specs.declared.Small.{Small}
@@ -34,7 +34,7 @@ use Rattle.argument.specs.Holds.{nameOf, operandOf, valueOf, textOf, wrongOf}
 use Rattle.argument.specs.Argument.{emptySaid, known, nameSaid, fresh, newSaid, valuedBy, literalSaid, knownOperand}
 use Rattle.argument.specs.Argument.{literalOperand, operandSaid, letteredBy, typeSaid, numberedBy, numberSaid, signs}
 use Rattle.argument.specs.Argument.{comparedBy, comparisonSaid, said, closedAt, textAt, isText, stopped, saidAt}
-use Rattle.script.proofs.Room.{isNew, never}
+use Rattle.script.proofs.Room.{isNew, apart, never}
 
 -- ---- a row that is found is one of the table
 
@@ -103,8 +103,8 @@ module _ (n size : ℕ) where
 
   valued-fit : (l : Literal) → Sound l → Fit n size (valuedBy l)
   unfolding finite
-  valued-fit (good v i) h = record { operand = refl; value = h; text = nothing-inside }
-  valued-fit (bad i) h = wrong-fit R.BadArguments
+  valued-fit (Literal.Value v i) h = record { operand = refl; value = h; text = nothing-inside }
+  valued-fit (Literal.Bad i) h = wrong-fit R.BadArguments
 
   known-operand-fit : (f : Found) → Below n f → Fit n size (knownOperand f)
   unfolding finite
@@ -113,8 +113,8 @@ module _ (n size : ℕ) where
 
   literal-operand-fit : (l : Literal) → Sound l → Fit n size (literalOperand l)
   unfolding finite
-  literal-operand-fit (good v i) h = record { operand = h; value = refl; text = nothing-inside }
-  literal-operand-fit (bad i) h = wrong-fit R.BadArguments
+  literal-operand-fit (Literal.Value v i) h = record { operand = h; value = refl; text = nothing-inside }
+  literal-operand-fit (Literal.Bad i) h = wrong-fit R.BadArguments
 
   type-fit : (t : TypeName) → Fit n size (letteredBy t)
   unfolding finite
@@ -160,10 +160,10 @@ module _ (n size : ℕ) where
 
   text-fit : (line : List ℕ) (i : ℕ) → length line ≤ size → Fit n size (textAt line i .argument)
   unfolding textAt
-  text-fit line i k = go (eqb (getD line (i + run Blank (drop i line)) 0) 34)
+  text-fit line i k = go (eqb (getD line (i + run Class.Blank (drop i line)) 0) 34)
     where
       f : ℕ
-      f = i + run Blank (drop i line) + 1
+      f = i + run Class.Blank (drop i line) + 1
 
       go : (b : Bool)
           → Fit n size (cond b (closedAt line f (f + before 34 (drop f line)))
@@ -222,19 +222,16 @@ new-named names w n h k = go (nameForm w) (seek names w) (ltb (length names) 32)
         full false k = never k
     go false f t k = never k
 
-no : {X : Type 0} → false ≡ true → X
-no e = let z : _≡_ {A = ℕ} 0 1 = cc in absurd (omega arith)
-
 pub named-fit : (names : List (List ℕ)) (line : List ℕ) (form : Form) (i n : ℕ) → isNamed form ≡ true
     → cond (isNew form) (length names + 1) (length names) ≤ n
     → wrongOf (saidAt names line form i .argument) ≡ none → ltb (nameOf (saidAt names line form i .argument)) n ≡ true
 unfolding saidAt said isNamed isNew
 named-fit names line F.New i n e h k = new-named names (part line (wordAt line i)) n (omega arith) k
 named-fit names line F.Name i n e h k = old-named names (part line (wordAt line i)) n h k
-named-fit names line F.Nothing i n e h k = no e
-named-fit names line F.Operand i n e h k = no e
-named-fit names line F.Literal i n e h k = no e
-named-fit names line F.Letters i n e h k = no e
-named-fit names line F.Number i n e h k = no e
-named-fit names line F.Comparison i n e h k = no e
-named-fit names line F.Text i n e h k = no e
+named-fit names line F.Nothing i n e h k = apart cc
+named-fit names line F.Operand i n e h k = apart cc
+named-fit names line F.Literal i n e h k = apart cc
+named-fit names line F.Letters i n e h k = apart cc
+named-fit names line F.Number i n e h k = apart cc
+named-fit names line F.Comparison i n e h k = apart cc
+named-fit names line F.Text i n e h k = apart cc

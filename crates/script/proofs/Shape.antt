@@ -17,7 +17,7 @@ use Rattle.word.specs.Word.{skipped}
 use Rattle.line.specs.Line.{Judgement, item, refused, judged}
 use Rattle.script.specs.Load.{Outcome, emptyScript, refusal, accepted, declares, counted, appended, Line}
 use Rattle.script.specs.Load.{nothing, given, Step, taking, takenBy, lineStep, nameRow, named, walk, loaded}
-use Rattle.script.proofs.Room.{Few, room, count-few, few}
+use Rattle.script.proofs.Room.{apart, Few, room, count-few, few}
 use Rattle.script.proofs.Items.{judged-fit}
 
 -- ---- one item more
@@ -37,8 +37,8 @@ items-ok n size (y ∷ xs) x h k = go (itemOk n size y) (itemsOk n size xs) refl
         → (itemsOk n size xs ≡ true → itemsOk n size (xs ++ (x ∷ [])) ≡ true) → (a && b) ≡ true
         → (itemOk n size y && itemsOk n size (xs ++ (x ∷ []))) ≡ true
     go true true p q more r = simp (p, more q)
-    go true false p q more r = let z : _≡_ {A = ℕ} 0 1 = cc in absurd (omega arith)
-    go false b p q more r = let z : _≡_ {A = ℕ} 0 1 = cc in absurd (omega arith)
+    go true false p q more r = apart cc
+    go false b p q more r = apart cc
 
 -- ---- a table in shape, with however many names may still come
 

@@ -5,16 +5,16 @@ use Prim.Native.Nat.{ℕ}
 use Rattle.table.specs.declared.Script.{Script}
 use Rattle.argument.proofs.Refusals.{same-number}
 use Rattle.script.specs.declared.Answer.{Answer}
-use Rattle.script.specs.declared.Answer.the-variants.{Accepted, Refused}
+use Rattle.script.specs.declared.Answer.the-variants as Answer
 use Rattle.script.specs.declared.Loaded.{Loaded}
 use Rattle.script.specs.Load.{Outcome, answerNumber, answerLine, meaning, loaded}
 use Rattle.script.proofs.Walk.{not-zero}
 
 same-answer : (a b : Answer) → answerNumber a ≡ answerNumber b → answerLine a ≡ answerLine b → a ≡ b
-same-answer Accepted Accepted e f = refl
-same-answer Accepted (Refused r n) e f = absurd (not-zero r (sym e))
-same-answer (Refused r n) Accepted e f = absurd (not-zero r e)
-same-answer (Refused r n) (Refused r' n') e f = ap₂ Refused (same-number r r' e) f
+same-answer Answer.Accepted Answer.Accepted e f = refl
+same-answer Answer.Accepted (Answer.Refused r n) e f = absurd (not-zero r (sym e))
+same-answer (Answer.Refused r n) Answer.Accepted e f = absurd (not-zero r e)
+same-answer (Answer.Refused r n) (Answer.Refused r' n') e f = ap₂ Answer.Refused (same-number r r' e) f
 
 same-meaning : (r r' : Loaded) → meaning r ≡ meaning r' → r ≡ r'
 same-meaning r r' e =

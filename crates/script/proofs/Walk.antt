@@ -13,7 +13,7 @@ use Rattle.argument.specs.declared.Refusal.{Refusal}
 use Rattle.argument.specs.declared.Refusal.the-variants as R
 use Rattle.argument.specs.Refusal.{numberOf}
 use Rattle.line.specs.Line.{item, refused, judged}
-use Rattle.script.proofs.Room.{few}
+use Rattle.script.proofs.Room.{apart, few}
 use Rattle.script.specs.Load.{Outcome, emptyScript, declares, counted, appended, Line, nothing, given, Step}
 use Rattle.script.specs.Load.{taking, takenBy, lineStep, nameRow, named, refusal, accepted, walk, loaded}
 use Rattle.table.specs.declared.Item.{Item}
@@ -227,10 +227,10 @@ module _ {s : List ℕ} {p : Script} {rows : List (List ℕ)} {at nr stop : ℕ}
           ≡ cond a (given (refused 12))
           (cond b nothing (cond c (given (judged (names r) (take stop s) at)) (given (refused 13))))
           → p .count < 128
-      tests true b c w v = let z : _≡_ {A = ℕ} 0 1 = cc in absurd (omega arith)
-      tests false true c w v = let z : _≡_ {A = ℕ} 0 1 = cc in absurd (omega arith)
+      tests true b c w v = apart cc
+      tests false true c w v = apart cc
       tests false false true w v = ltb-true _ _ w
-      tests false false false w v = let z : _≡_ {A = ℕ} 0 1 = cc in absurd (omega arith)
+      tests false false false w v = apart cc
 
   -- the walk goes on behind it, with the names that there are then
   goes-on-with : (b : Bool) → declares it ≡ b

@@ -14,7 +14,7 @@ use Rattle.word.specs.Word.{wordAt, part, padded, skipped}
 use Rattle.argument.specs.Refusal.{numberOf}
 use Rattle.line.specs.Line.{Judgement, item, refused, judged}
 use Rattle.script.specs.declared.Answer.{Answer}
-use Rattle.script.specs.declared.Answer.the-variants.{Accepted as acceptedBy, Refused as refusedBy}
+use Rattle.script.specs.declared.Answer.the-variants as Answer
 use Rattle.script.specs.declared.Loaded.{Loaded}
 
 -- ---- what loading gives: 01's number and line, both 0 where the text is accepted, and the table
@@ -25,12 +25,12 @@ pub record Outcome : Type 0 where
   pub table : Script
 
 abbrev pub answerNumber : Answer → ℕ
-answerNumber acceptedBy = 0
-answerNumber (refusedBy r n) = numberOf r
+answerNumber Answer.Accepted = 0
+answerNumber (Answer.Refused r n) = numberOf r
 
 abbrev pub answerLine : Answer → ℕ
-answerLine acceptedBy = 0
-answerLine (refusedBy r n) = n
+answerLine Answer.Accepted = 0
+answerLine (Answer.Refused r n) = n
 
 abbrev pub meaning : Loaded → Outcome
 meaning l = record { number = answerNumber (l .answer); line = answerLine (l .answer); table = l .script }

@@ -87,3 +87,7 @@ unfolding heard moves left
 over (negsuc _) _ _ bytes _ e = rw (ap left e) tt
 over (pos zero) size _ bytes p e = rw (ap left e) (counted size bytes p)
 over (pos (suc _)) _ _ _ _ e = not-true (ap moves e)
+
+-- What a caller knows of the bytes that came.
+pub came : {input : Input} {n : ℕ} → input ≡ Input.Bytes n → (bytes : List ℕ) → Within input bytes → Counts n bytes
+came e bytes h = rw e at h

@@ -1,57 +1,60 @@
 -- `safety::check_and_run` meets its contract: what the checker says, and what the run comes to where it accepts.
-use mathlib.Core.Path.{sym, ap, _∙_}
 use borrow.Author.Needs.{needs}
 use lib.ListN.{length}
-use Rattle.machine.specs.Course.{Course, stepsOf}
-use Rattle.safety.specs.Outcome.{Outcome}
-use Rattle.safety.proofs.Report.{rules-yes, rules-no, from-fresh, fixed}
+use mathlib.Core.List.{List}
+use mathlib.Core.Path.{_≡_, sym, ap, _∙_}
+use Prim.Native.Nat.{ℕ}
+use Rattle.machine.specs.Course.{Course, stepsOf, runFrom}
+use Rattle.machine.specs.declared.Steps.{Steps}
+use Rattle.rules.specs.declared.Rule.{Rule}
+use Rattle.rules.specs.declared.Verdict.the-variants as Verdict
+use Rattle.rules.specs.Verdict.{numberOf as ruleNumber}
 use Rattle.safety.proofs.check_and_run.Statement.{statement}
 use Rattle.safety.proofs.check_and_run.Tie as tie
+use Rattle.safety.proofs.Report.{rules-yes, rules-no, from-fresh, fixed}
+use Rattle.safety.specs.Outcome.{Outcome, refusal, checkedOutcome}
+use Rattle.state.specs.State.{fresh}
+use Rattle.table.specs.declared.Script.{Script}
 
 abbrev ran : Course → Outcome
 ran x = record { number = 0; line = 0; course = x }
 
-check-requires : tie.Need-check-requires
-check-requires c κs = search needs
+-- with the checker's verdict
+module _ (c : tie.After-check) where
+  abbrev size : ℕ
+  size = length (c .before .before .args .text .now)
 
-enum-told : tie.Need-enum-told
-enum-told c = search needs
+  abbrev script : Script
+  script = c .before .before .args .script
 
-fresh-requires : tie.Need-fresh-requires
-fresh-requires c κs = search needs
+  abbrev steps : Steps
+  steps = c .before .before .args .steps
 
-run-requires : tie.Need-run-requires
-run-requires c κs = search needs
+  accepts : c .check .result ≡ Verdict.Accepted
+      → ran (runFrom size script fresh (stepsOf steps)) ≡ checkedOutcome size script (stepsOf steps)
+  accepts is = sym (rules-yes size script (stepsOf steps) (c .check .result) (c .check .ensures) is)
 
-enum-known-verdict : tie.Need-enum-known-verdict
-enum-known-verdict c = search needs
-
-refused-requires : tie.Need-refused-requires
-refused-requires c κs = search needs
+  refuses : (r : Rule) (line : ℕ) → c .check .result ≡ Verdict.Refused r line
+      → refusal (ruleNumber r) line ≡ checkedOutcome size script (stepsOf steps)
+  refuses r line is = sym (rules-no size script (stepsOf steps) (c .check .result) (c .check .ensures) r line is)
 
 returns : tie.Need-returns
 returns c =
-    let a = c .before .before .before .before .before .before .args in (
-      ap (λ (x : Course). ran x) (from-fresh (a .steps) (c .before .fresh .ensures .says) (c .run .ensures))
-          ∙ sym (rules-yes (length (a .text .now)) (a .script) (stepsOf (a .steps))
-          (c .before .before .before .before .check .result) (c .before .before .before .before .check .ensures)
-          (c .before .before .enum-told .given .1)),
-      fixed (c .before .fresh .ensures .neat) (c .run .ensures),
+    let told = c .before .before in
+    let begun = c .before .fresh .ensures in (
+      ap (λ (x : Course). ran x) (from-fresh (steps (told .before .before)) (begun .says) (c .run .ensures))
+          ∙ accepts (told .before .before) (told .enum-told .given .1),
+      fixed (begun .neat) (c .run .ensures),
     )
 
 returns-2 : tie.Need-returns-2
 returns-2 c =
-    let a = c .before .before .before .before .before .before .args in (
-      c .refused .ensures .0
-          ∙ sym (rules-no (length (a .text .now)) (a .script) (stepsOf (a .steps))
-          (c .before .before .before .before .check .result) (c .before .before .before .before .check .ensures) _ _
-          (c .before .before .verdict .given .1)),
-      c .refused .ensures .1,
-    )
+    let told = c .before .before in
+    (c .refused .ensures .0 ∙ refuses (told .before .before) _ _ (told .verdict .given .1), c .refused .ensures .1)
 
 pub check-and-run-spec : {M : Type 1} → statement M
 check-and-run-spec =
     tie.close
     (tie.spec
-    check-requires enum-told fresh-requires run-requires enum-known-verdict refused-requires returns
-    returns-2)
+    (λ c κs. search needs) (λ c. search needs) (λ c κs. search needs) (λ c κs. search needs)
+    (λ c. search needs) (λ c κs. search needs) returns returns-2)

@@ -1,60 +1,56 @@
 -- `safety::run` meets its contract: what the loader says, and then what the checker and the run come to, with the
 -- promise of demand 3.
-use mathlib.Core.Path.{sym, ap, _∙_}
 use borrow.Author.Needs.{needs}
+use lib.ListN.{length}
+use mathlib.Core.List.{List}
+use mathlib.Core.Path.{_≡_, sym, _∙_}
+use Prim.Native.Nat.{ℕ}
+use Rattle.argument.specs.declared.Refusal.{Refusal}
+use Rattle.argument.specs.Refusal.{numberOf as formNumber}
 use Rattle.machine.specs.Course.{stepsOf}
-use Rattle.safety.specs.Outcome.{Outcome}
-use Rattle.safety.specs.Safety.{allAllowed}
-use Rattle.safety.proofs.Report.{form-yes, form-no, promised}
+use Rattle.safety.proofs.Report.{form-yes, form-no, exact}
 use Rattle.safety.proofs.run.Statement.{statement}
 use Rattle.safety.proofs.run.Tie as tie
+use Rattle.safety.specs.Outcome.{refusal, checkedOutcome, outcome}
+use Rattle.script.specs.declared.Answer.the-variants as Answer
+use Rattle.script.specs.declared.Loaded.{Loaded}
+use Rattle.state.specs.declared.Control.{Control}
+use Rattle.state.specs.declared.Offer.{Offer}
 
-load-requires : tie.Need-load-requires
-load-requires c κs = search needs
+-- with what the loader answers
+module _ (c : tie.After-load) where
+  abbrev text : List ℕ
+  text = c .before .before .args .text .now
 
-enum-told : tie.Need-enum-told
-enum-told c = search needs
+  abbrev steps : List (Control × Offer)
+  steps = stepsOf (c .before .before .args .steps)
 
-check-and-run-requires : tie.Need-check-and-run-requires
-check-and-run-requires c κs = search needs
+  abbrev loaded : Loaded
+  loaded = c .load .result
 
-enum-known-answer : tie.Need-enum-known-answer
-enum-known-answer c = search needs
+  accepts : loaded .answer ≡ Answer.Accepted
+      → checkedOutcome (length text) (loaded .script) steps ≡ outcome text steps
+  accepts is = sym (form-yes text steps loaded (c .load .ensures) is)
 
-refused-requires : tie.Need-refused-requires
-refused-requires c κs = search needs
+  refuses : (r : Refusal) (line : ℕ) → loaded .answer ≡ Answer.Refused r line
+      → refusal (formNumber r) line ≡ outcome text steps
+  refuses r line is = sym (form-no text steps loaded (c .load .ensures) r line is)
 
 returns : tie.Need-returns
 returns c =
-    let a = c .before .before .before .before .before .before .args in
-    let said =
-    c .check-and-run .ensures .0
-    ∙ sym (form-yes (a .text .now) (stepsOf (a .steps)) (c .before .before .before .before .load .result)
-    (c .before .before .before .before .load .ensures) (c .before .before .enum-told .given .1)) in
-    record {
-      says = said;
-      allowed = ap (λ (o : Outcome). allAllowed (o .course .answers)) said
-          ∙ promised (a .text .now) (stepsOf (a .steps));
-      fixed = c .check-and-run .ensures .1;
-    }
+    let told = c .before .before in
+    let said = c .check-and-run .ensures in
+    exact (said .0 ∙ accepts (told .before .before) (told .enum-told .given .1)) (said .1)
 
 returns-2 : tie.Need-returns-2
 returns-2 c =
-    let a = c .before .before .before .before .before .before .args in
-    let said =
-    c .refused .ensures .0
-    ∙ sym (form-no (a .text .now) (stepsOf (a .steps)) (c .before .before .before .before .load .result)
-    (c .before .before .before .before .load .ensures) _ _ (c .before .before .answer .given .1)) in
-    record {
-      says = said;
-      allowed = ap (λ (o : Outcome). allAllowed (o .course .answers)) said
-          ∙ promised (a .text .now) (stepsOf (a .steps));
-      fixed = c .refused .ensures .1;
-    }
+    let told = c .before .before in
+    let said = c .refused .ensures in
+    exact (said .0 ∙ refuses (told .before .before) _ _ (told .answer .given .1)) (said .1)
 
 pub run-spec : {M : Type 1} → statement M
 run-spec =
     tie.close
     (tie.spec
-    load-requires enum-told check-and-run-requires enum-known-answer refused-requires returns
-    returns-2)
+    (λ c κs. search needs) (λ c. search needs) (λ c κs. search needs) (λ c. search needs)
+    (λ c κs. search needs) returns returns-2)

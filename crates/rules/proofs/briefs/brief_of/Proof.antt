@@ -51,12 +51,5 @@ pub brief-of-spec : {M : Type 1} → statement M
 brief-of-spec =
     tie.close
     (tie.spec
-    reads-requires
-    writes-requires
-    wrong-kinds-requires
-    form-by-requires
-    none-requires
-    with-read-requires
-    none-requires-2
-    with-written-requires
-    returns)
+    reads-requires writes-requires wrong-kinds-requires form-by-requires none-requires
+    with-read-requires none-requires-2 with-written-requires returns)

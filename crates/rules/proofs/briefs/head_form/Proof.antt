@@ -27,10 +27,4 @@ pub head-form-spec : {M : Type 1} → statement M
 head-form-spec =
     tie.close
     (tie.spec
-    enum-told
-    enum-told-2
-    enum-known-head
-    sweep-form-requires
-    returns
-    returns-2
-    returns-3)
+    enum-told enum-told-2 enum-known-head sweep-form-requires returns returns-2 returns-3)

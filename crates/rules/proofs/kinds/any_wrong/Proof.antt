@@ -48,14 +48,5 @@ pub any-wrong-spec : {M : Type 1} → statement M
 any-wrong-spec =
     tie.close
     (tie.spec
-    enum-told
-    enum-known-wants
-    one-wrong-requires
-    enum-known-wants-2
-    no-float-requires
-    no-float-requires-2
-    no-float-requires-3
-    no-float-requires-4
-    returns
-    returns-2
-    returns-3)
+    enum-told enum-known-wants one-wrong-requires enum-known-wants-2 no-float-requires
+    no-float-requires-2 no-float-requires-3 no-float-requires-4 returns returns-2 returns-3)

@@ -33,12 +33,5 @@ pub any-wrong-give-spec : {M : Type 1} → statement M
 any-wrong-give-spec =
     tie.close
     (tie.spec
-    enum-told
-    enum-known-gives
-    one-wrong-give-requires
-    enum-known-gives-2
-    no-float-requires
-    no-float-requires-2
-    returns
-    returns-2
-    returns-3)
+    enum-told enum-known-gives one-wrong-give-requires enum-known-gives-2 no-float-requires
+    no-float-requires-2 returns returns-2 returns-3)

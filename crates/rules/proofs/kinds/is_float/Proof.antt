@@ -34,10 +34,5 @@ pub is-float-spec : {M : Type 1} → statement M
 is-float-spec =
     tie.close
     (tie.spec
-    enum-known-x
-    has-name-requires
-    has-name-requires-2
-    enum-known-x-2
-    float-value-requires
-    returns
+    enum-known-x has-name-requires has-name-requires-2 enum-known-x-2 float-value-requires returns
     returns-2)

@@ -1,4 +1,5 @@
-use Rattle.rules.specs.Words.{known, realKind}
+use Rattle.table.specs.declared.Known.the-variants as Known
+use Rattle.table.specs.declared.Kind.the-variants as Kind
 use Rattle.rules.specs.Code.{kindsIn}
 use mathlib.Core.Path.{sym, _∙_}
 use Rattle.rules.proofs.Sorting.{keeps, real-learnt}
@@ -12,7 +13,7 @@ has-kind-requires c κs = search needs
 returns : tie.Need-returns
 returns c =
     let given = c .before .before .args in
-    keeps (kindsIn (given .kinds)) (given .n) (known realKind) (sym (c .before .has-kind .ensures) ∙ c .if1 .taken)
+    keeps (kindsIn (given .kinds)) (given .n) (Known.Of Kind.Real) (sym (c .before .has-kind .ensures) ∙ c .if1 .taken)
 
 with-name-requires : tie.Need-with-name-requires
 with-name-requires c κs = search needs

@@ -47,10 +47,5 @@ pub learn-like-spec : {M : Type 1} → statement M
 learn-like-spec =
     tie.close
     (tie.spec
-    is-whole-requires
-    learn-whole-requires
-    returns
-    is-float-requires
-    learn-float-requires
-    returns-2
+    is-whole-requires learn-whole-requires returns is-float-requires learn-float-requires returns-2
     returns-3)

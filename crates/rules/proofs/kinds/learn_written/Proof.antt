@@ -51,16 +51,6 @@ pub learn-written-spec : {M : Type 1} → statement M
 learn-written-spec =
     tie.close
     (tie.spec
-    enum-told
-    enum-known-gives
-    enum-known-g
-    learn-like-requires
-    enum-known-g-2
-    learn-float-requires
-    enum-known-gives-2
-    learn-float-requires-2
-    learn-float-requires-3
-    returns
-    returns-2
-    returns-3
+    enum-told enum-known-gives enum-known-g learn-like-requires enum-known-g-2 learn-float-requires
+    enum-known-gives-2 learn-float-requires-2 learn-float-requires-3 returns returns-2 returns-3
     returns-4)

@@ -30,11 +30,5 @@ pub one-wrong-spec : {M : Type 1} → statement M
 one-wrong-spec =
     tie.close
     (tie.spec
-    enum-told
-    enum-known-want
-    unlike-requires
-    enum-known-want-2
-    no-float-requires
-    returns
-    returns-2
+    enum-told enum-known-want unlike-requires enum-known-want-2 no-float-requires returns returns-2
     returns-3)

@@ -24,9 +24,4 @@ pub one-wrong-give-spec : {M : Type 1} → statement M
 one-wrong-give-spec =
     tie.close
     (tie.spec
-    enum-known-give
-    unlike-requires
-    enum-known-give-2
-    no-float-requires
-    returns
-    returns-2)
+    enum-known-give unlike-requires enum-known-give-2 no-float-requires returns returns-2)

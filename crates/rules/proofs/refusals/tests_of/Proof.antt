@@ -46,12 +46,5 @@ pub tests-of-spec : {M : Type 1} → statement M
 tests-of-spec =
     tie.close
     (tie.spec
-    is-wrong-requires
-    unwritten-requires
-    misplaced-mark-requires
-    ninth-box-requires
-    breaks-order-requires
-    misplaced-tag-requires
-    same-name-requires
-    nested-sweep-requires
-    returns)
+    is-wrong-requires unwritten-requires misplaced-mark-requires ninth-box-requires
+    breaks-order-requires misplaced-tag-requires same-name-requires nested-sweep-requires returns)

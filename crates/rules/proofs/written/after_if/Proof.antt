@@ -26,9 +26,4 @@ pub after-if-spec : {M : Type 1} → statement M
 after-if-spec =
     tie.close
     (tie.spec
-    in-both-requires
-    all-requires
-    in-both-requires-2
-    returns
-    in-both-requires-3
-    returns-2)
+    in-both-requires all-requires in-both-requires-2 returns in-both-requires-3 returns-2)
