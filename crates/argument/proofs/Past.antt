@@ -7,7 +7,7 @@ use native.Mathlib.Omega.{arith}
 use lib.Seq.{take-nil}
 use lib.ListN.{length, take, drop, length-drop}
 use Rattle.word.proofs.Runs.{run-end}
-use Rattle.word.specs.declared.Class.the-variants.{Blank, Solid}
+use Rattle.word.specs.declared.Class.the-variants as Class
 use Rattle.word.specs.Word.{run, wordAt, part}
 use Rattle.argument.specs.Argument.{Form, Argument, isText, said, stopped, saidAt}
 
@@ -18,10 +18,10 @@ empty-take n (c ∷ s) h = absurd (omega arith)
 pub word-past : (s : List ℕ) (i : ℕ) → length s ≤ i → (part s (wordAt s i) ≡ []) × (wordAt s i .end ≡ i)
 unfolding wordAt
 word-past s i h =
-    let f : ℕ = i + run Blank (drop i s) in
-    let b : run Blank (drop i s) ≡ 0 = run-end Blank s i h in
-    let t : run Solid (drop f s) ≡ 0 = run-end Solid s f (omega arith) in
-    (empty-take (f + run Solid (drop f s) - f) (drop f s) (omega (arith, length-drop f s)), omega arith)
+    let f : ℕ = i + run Class.Blank (drop i s) in
+    let b : run Class.Blank (drop i s) ≡ 0 = run-end Class.Blank s i h in
+    let t : run Class.Solid (drop f s) ≡ 0 = run-end Class.Solid s f (omega arith) in
+    (empty-take (f + run Class.Solid (drop f s) - f) (drop f s) (omega (arith, length-drop f s)), omega arith)
 
 pub said-past : (names : List (List ℕ)) (s : List ℕ) (form : Form) (i : ℕ) (x : Argument)
     → isText form ≡ false → length s ≤ i → x ≡ said form names [] → stopped x i ≡ saidAt names s form i

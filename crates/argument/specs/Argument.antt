@@ -8,76 +8,76 @@ use lib.Dec.{ltb, eqb}
 use lib.ListN.{length, drop, getD}
 use Rattle.text.specs.Cut.{before}
 use Rattle.value.specs.declared.Comparison.{Comparison}
-use Rattle.value.specs.declared.Comparison.the-variants as C
+use Rattle.value.specs.declared.Comparison.the-variants as Comparison
 use Rattle.value.specs.declared.Literal.{Literal}
-use Rattle.value.specs.declared.Literal.the-variants.{Value as good, Bad as bad}
+use Rattle.value.specs.declared.Literal.the-variants as Literal
 use Rattle.value.specs.Literal.{literal as readLiteral}
-use Rattle.table.specs.declared.Operand.the-variants.{Name as name, Literal as literal}
-use Rattle.word.specs.declared.Class.the-variants.{Blank}
+use Rattle.table.specs.declared.Operand.the-variants as Operand
+use Rattle.word.specs.declared.Class.the-variants as Class
 use Rattle.word.specs.declared.Found.{Found}
-use Rattle.word.specs.declared.Found.the-variants.{At as at, Nothing as nowhere}
+use Rattle.word.specs.declared.Found.the-variants as Found
 use Rattle.word.specs.declared.TypeName.{TypeName}
-use Rattle.word.specs.declared.TypeName.the-variants.{Letters as letters, Bad as noType}
+use Rattle.word.specs.declared.TypeName.the-variants as TypeName
 use Rattle.word.specs.declared.Small.{Small}
-use Rattle.word.specs.declared.Small.the-variants.{Number as number, Bad as noNumber}
+use Rattle.word.specs.declared.Small.the-variants as Small
 use Rattle.text.specs.Bytes.{byte, ascii}
 use Rattle.word.specs.Word.{run, wordAt, part, nameForm, readType, smallOf as readNumber, padded, seek}
-use Rattle.argument.specs.declared.Refusal.the-variants as R
+use Rattle.argument.specs.declared.Refusal.the-variants as Refusal
 pub use Rattle.argument.specs.declared.Form.{Form}
-pub use Rattle.argument.specs.declared.Form.the-variants as F
+pub use Rattle.argument.specs.declared.Form.the-variants as Form
 pub use Rattle.argument.specs.declared.Argument.{Argument}
-pub use Rattle.argument.specs.declared.Argument.the-variants as A
+pub use Rattle.argument.specs.declared.Argument.the-variants as Argument
 pub use Rattle.argument.specs.declared.Said.{Said}
 
 -- ---- what a word says where a form is asked; a missing word is an empty one
 
 unfoldable pub emptySaid : List ℕ → Argument
-emptySaid w = cond (eqb (length w) 0) A.Nothing (A.Wrong R.BadArguments)
+emptySaid w = cond (eqb (length w) 0) Argument.Nothing (Argument.Wrong Refusal.BadArguments)
 
 abbrev pub known : Found → Argument
-known (at i) = A.Name i
-known nowhere = A.Wrong R.Undeclared
+known (Found.At i) = Argument.Name i
+known Found.Nothing = Argument.Wrong Refusal.Undeclared
 
 -- a name that was declared on an earlier line
 unfoldable pub nameSaid : List (List ℕ) → List ℕ → Argument
-nameSaid names w = cond (nameForm w) (known (seek names w)) (A.Wrong R.BadArguments)
+nameSaid names w = cond (nameForm w) (known (seek names w)) (Argument.Wrong Refusal.BadArguments)
 
 abbrev pub fresh : ℕ → Found → Argument
-fresh n (at i) = A.Wrong R.DeclaredTwice
-fresh n nowhere = cond (ltb n 32) (A.Name n) (A.Wrong R.TooManyNames)
+fresh n (Found.At i) = Argument.Wrong Refusal.DeclaredTwice
+fresh n Found.Nothing = cond (ltb n 32) (Argument.Name n) (Argument.Wrong Refusal.TooManyNames)
 
 -- a name that is new, with its number
 unfoldable pub newSaid : List (List ℕ) → List ℕ → Argument
-newSaid names w = cond (nameForm w) (fresh (length names) (seek names w)) (A.Wrong R.BadArguments)
+newSaid names w = cond (nameForm w) (fresh (length names) (seek names w)) (Argument.Wrong Refusal.BadArguments)
 
 abbrev pub valuedBy : Literal → Argument
-valuedBy (good v i) = A.Literal v
-valuedBy (bad i) = A.Wrong R.BadArguments
+valuedBy (Literal.Value v i) = Argument.Literal v
+valuedBy (Literal.Bad i) = Argument.Wrong Refusal.BadArguments
 
 unfoldable pub literalSaid : List ℕ → Argument
 literalSaid w = valuedBy (readLiteral w)
 
 abbrev pub knownOperand : Found → Argument
-knownOperand (at i) = A.Operand (name i)
-knownOperand nowhere = A.Wrong R.Undeclared
+knownOperand (Found.At i) = Argument.Operand (Operand.Name i)
+knownOperand Found.Nothing = Argument.Wrong Refusal.Undeclared
 
 abbrev pub literalOperand : Literal → Argument
-literalOperand (good v i) = A.Operand (literal v)
-literalOperand (bad i) = A.Wrong R.BadArguments
+literalOperand (Literal.Value v i) = Argument.Operand (Operand.Literal v)
+literalOperand (Literal.Bad i) = Argument.Wrong Refusal.BadArguments
 
 unfoldable pub operandSaid : List (List ℕ) → List ℕ → Argument
 operandSaid names w = cond (nameForm w) (knownOperand (seek names w)) (literalOperand (readLiteral w))
 
 abbrev pub letteredBy : TypeName → Argument
-letteredBy (letters t) = A.Letters t
-letteredBy noType = A.Wrong R.BadArguments
+letteredBy (TypeName.Letters t) = Argument.Letters t
+letteredBy TypeName.Bad = Argument.Wrong Refusal.BadArguments
 
 unfoldable pub typeSaid : List ℕ → Argument
 typeSaid w = letteredBy (readType w)
 
 abbrev pub numberedBy : Small → Argument
-numberedBy (number n) = A.Number n
-numberedBy noNumber = A.Wrong R.BadArguments
+numberedBy (Small.Number n) = Argument.Number n
+numberedBy Small.Bad = Argument.Wrong Refusal.BadArguments
 
 unfoldable pub numberSaid : List ℕ → Argument
 numberSaid w = numberedBy (readNumber w)
@@ -87,26 +87,31 @@ signs =
     padded (ascii "==") ∷ padded (ascii "!=") ∷ padded (ascii "<") ∷ padded (ascii "<=")
     ∷ padded (ascii ">") ∷ padded (ascii ">=") ∷ []
 
+abbrev pub comparisons : List Comparison
+comparisons =
+    Comparison.Equal ∷ Comparison.Unequal ∷ Comparison.Less ∷ Comparison.AtMost ∷ Comparison.Greater
+    ∷ Comparison.AtLeast ∷ []
+
 unfoldable pub comparisonAt : ℕ → Comparison
-comparisonAt i = getD (C.Equal ∷ C.Unequal ∷ C.Less ∷ C.AtMost ∷ C.Greater ∷ C.AtLeast ∷ []) i C.AtLeast
+comparisonAt i = getD comparisons i Comparison.AtLeast
 
 abbrev pub comparedBy : Found → Argument
-comparedBy (at i) = A.Comparison (comparisonAt i)
-comparedBy nowhere = A.Wrong R.BadArguments
+comparedBy (Found.At i) = Argument.Comparison (comparisonAt i)
+comparedBy Found.Nothing = Argument.Wrong Refusal.BadArguments
 
 unfoldable pub comparisonSaid : List ℕ → Argument
 comparisonSaid w = comparedBy (seek signs w)
 
 unfoldable pub said : Form → List (List ℕ) → List ℕ → Argument
-said F.Nothing names w = emptySaid w
-said F.New names w = newSaid names w
-said F.Name names w = nameSaid names w
-said F.Operand names w = operandSaid names w
-said F.Literal names w = literalSaid w
-said F.Letters names w = typeSaid w
-said F.Number names w = numberSaid w
-said F.Comparison names w = comparisonSaid w
-said F.Text names w = A.Wrong R.BadArguments
+said Form.Nothing names w = emptySaid w
+said Form.New names w = newSaid names w
+said Form.Name names w = nameSaid names w
+said Form.Operand names w = operandSaid names w
+said Form.Literal names w = literalSaid w
+said Form.Letters names w = typeSaid w
+said Form.Number names w = numberSaid w
+said Form.Comparison names w = comparisonSaid w
+said Form.Text names w = Argument.Wrong Refusal.BadArguments
 
 -- ---- the text of send_string: a quote, bytes without quote, a quote
 
@@ -117,28 +122,30 @@ stopped x n = record { argument = x; stop = n }
 abbrev pub closedAt : List ℕ → ℕ → ℕ → Said
 closedAt line f q =
     cond (ltb q (length line))
-    (stopped (A.Text (record { start = f; end = q })) (q + 1)) (stopped (A.Wrong R.BadArguments) (length line))
+    (stopped (Argument.Text (record { start = f; end = q })) (q + 1))
+    (stopped (Argument.Wrong Refusal.BadArguments) (length line))
 
 abbrev pub afterQuote : List ℕ → ℕ → Said
 afterQuote line f = closedAt line f (f + before (byte "\"") (drop f line))
 
 abbrev pub textFrom : List ℕ → ℕ → Said
 textFrom line f =
-    cond (eqb (getD line f 0) (byte "\"")) (afterQuote line (f + 1)) (stopped (A.Wrong R.BadArguments) (length line))
+    cond (eqb (getD line f 0) (byte "\"")) (afterQuote line (f + 1))
+    (stopped (Argument.Wrong Refusal.BadArguments) (length line))
 
 unfoldable pub textAt : List ℕ → ℕ → Said
-textAt line i = textFrom line (i + run Blank (drop i line))
+textAt line i = textFrom line (i + run Class.Blank (drop i line))
 
 abbrev pub isText : Form → Bool
-isText F.Nothing = false
-isText F.New = false
-isText F.Name = false
-isText F.Operand = false
-isText F.Literal = false
-isText F.Letters = false
-isText F.Number = false
-isText F.Comparison = false
-isText F.Text = true
+isText Form.Nothing = false
+isText Form.New = false
+isText Form.Name = false
+isText Form.Operand = false
+isText Form.Literal = false
+isText Form.Letters = false
+isText Form.Number = false
+isText Form.Comparison = false
+isText Form.Text = true
 
 -- ---- the argument that begins at a place, and where it stops
 

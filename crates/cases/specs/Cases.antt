@@ -11,11 +11,11 @@ use Rattle.text.specs.Bytes.{ascii}
 use Rattle.crc.specs.Crc.{crc}
 use Rattle.value.specs.declared.Literal.{Literal}
 use Rattle.value.specs.declared.Literal.the-variants as Literal
-use Rattle.value.specs.declared.Value.the-variants.{Real as real}
+use Rattle.value.specs.declared.Value.the-variants as Value
 use Rattle.value.specs.Literal.{literal}
 use Rattle.package.specs.declared.Amount.{Amount}
-use Rattle.package.specs.declared.Amount.the-variants.{Number as number, Integer as integer}
-use Rattle.package.specs.declared.Metadatum.the-variants.{Missing as missing}
+use Rattle.package.specs.declared.Amount.the-variants as Amount
+use Rattle.package.specs.declared.Metadatum.the-variants as Metadatum
 use Rattle.package.specs.Package.{Reading, parts, refused, packageOf}
 use Rattle.script.specs.Load.{Outcome, refusal, accepted, emptyScript, loaded}
 use Rattle.rules.specs.Check as Rules
@@ -56,12 +56,13 @@ asks l q a = record { letter = l; question = q; expected = a }
 
 -- a literal that is a float, read up to a place
 abbrev pub float : Float → ℕ → Answer
-float x stop = value (Literal.Value (real x) stop)
+float x stop = value (Literal.Value (Value.Real x) stop)
 
 -- a package of one part without metadata
 abbrev pub onePart : ℕ → Amount → Answer
 onePart t a =
-    reading (parts (record { kind = t; amount = a; status = missing; range = missing; noise = missing } ∷ []))
+    let none = Metadatum.Missing in
+    reading (parts (record { kind = t; amount = a; status = none; range = none; noise = none } ∷ []))
 
 unfoldable pub cases : List Case
 cases =
@@ -76,13 +77,13 @@ cases =
     -- `-0` is plus zero
     asks "E" (literalOf (ascii "-0")) (float (fin false 0 (pos 0)) 2) ∷
     -- `da7F0BDF9u` is -999943, exponent -6
-    asks "F" (packageFrom (ascii "Pda7F0BDF9u")) (onePart 0x6461 (number (negsuc 999942) (negsuc 5))) ∷
+    asks "F" (packageFrom (ascii "Pda7F0BDF9u")) (onePart 0x6461 (Amount.Number (negsuc 999942) (negsuc 5))) ∷
     -- value 0000000 is -134217728
-    asks "G" (packageFrom (ascii "Pda0000000 ")) (onePart 0x6461 (number (negsuc 134217727) (pos 0))) ∷
+    asks "G" (packageFrom (ascii "Pda0000000 ")) (onePart 0x6461 (Amount.Number (negsuc 134217727) (pos 0))) ∷
     -- FFFFFFF is 134217727
-    asks "H" (packageFrom (ascii "PdaFFFFFFF ")) (onePart 0x6461 (number (pos 134217727) (pos 0))) ∷
+    asks "H" (packageFrom (ascii "PdaFFFFFFF ")) (onePart 0x6461 (Amount.Number (pos 134217727) (pos 0))) ∷
     -- `ja8000001i` is integer 1
-    asks "I" (packageFrom (ascii "Pja8000001i")) (onePart 0x6A61 (integer (pos 1))) ∷
+    asks "I" (packageFrom (ascii "Pja8000001i")) (onePart 0x6A61 (Amount.Integer (pos 1))) ∷
     -- `P` alone is 40
     asks "J" (packageFrom (ascii "P")) (reading (refused 40 1)) ∷
     -- empty script, 11

@@ -3,7 +3,7 @@ use borrow.Author.Tests.{eq-eqb, ne-eqb}
 use lib.Dec.{eqb, ltb}
 use lib.ListN.{drop, drop-of-length-le, getD, length}
 use lib.Seq.{drop-cons}
-use mathlib.Core.Bool.{Bool, _||_, cond, false, true}
+use mathlib.Core.Bool.{Bool, _||_, cond, false, true, or-false}
 use mathlib.Core.List.{List, [], _∷_, _++_}
 use mathlib.Core.Path.{_≡_, refl, sym, _∙_, ap, ap₂}
 use native.Mathlib.Numerals.{add-one}
@@ -44,10 +44,6 @@ module _ {s : List ℕ} {found : Bool} {i : ℕ} (k : Seeking s found i) where
   unfolding contains
   end h =
       sym (ap (λ (l : List ℕ). found || contains (byte "\n") l) (drop-of-length-le s h) ∙ or-false found) ∙ k .same
-    where
-      or-false : (b : Bool) → (b || false) ≡ b
-      or-false true = refl
-      or-false false = refl
 
 -- ---- in joined lists, and in digits
 

@@ -9,8 +9,8 @@ use native.Mathlib.Omega.{arith}
 use Prim.Native.Nat.{ℕ, _≤_}
 use Rattle.argument.proofs.Past.{said-past}
 use Rattle.argument.specs.Argument.{emptySaid, said, stopped, saidAt}
-use Rattle.argument.specs.declared.Argument.the-variants as A
-use Rattle.argument.specs.declared.Form.the-variants.{Nothing}
+use Rattle.argument.specs.declared.Argument.the-variants as Argument
+use Rattle.argument.specs.declared.Form.the-variants as Form
 use Rattle.argument.specs.declared.Said.{Said}
 use Rattle.line.proofs.Rows.{both}
 use Rattle.line.specs.Code.{over, allOver}
@@ -40,7 +40,7 @@ pub record Rest (names : List (List ℕ)) (line k : List ℕ) (i : ℕ) (d e f g
   pub four : d ≡ saidAt names line (formOf (getD k 3 0)) i
   pub five : e ≡ saidAt names line (formOf (getD k 4 0)) (d .stop)
   pub six : f ≡ saidAt names line (formOf (getD k 5 0)) (e .stop)
-  pub last : g ≡ saidAt names line Nothing (f .stop)
+  pub last : g ≡ saidAt names line Form.Nothing (f .stop)
 
 pub all : {names : List (List ℕ)} {line k : List ℕ} {i : ℕ} {a b c d e f g : Said}
     → First names line k i a b c → Rest names line k (c .stop) d e f g
@@ -51,12 +51,12 @@ all x y = rw (y .last, y .six, y .five, y .four, x .three, x .two, x .one) refl
 -- ---- a line that is over
 
 nothing-said : (names : List (List ℕ)) (line : List ℕ) (i : ℕ) → i ≡ length line
-    → stopped A.Nothing i ≡ saidAt names line Nothing i
+    → stopped Argument.Nothing i ≡ saidAt names line Form.Nothing i
 unfolding said emptySaid
-nothing-said names line i h = said-past names line Nothing i A.Nothing refl (omega arith) refl
+nothing-said names line i h = said-past names line Form.Nothing i Argument.Nothing refl (omega arith) refl
 
 pub says-nothing : (names : List (List ℕ)) (line : List ℕ) (letter i : ℕ) → over letter (length line) i ≡ true
-    → stopped A.Nothing i ≡ saidAt names line (formOf letter) i
+    → stopped Argument.Nothing i ≡ saidAt names line (formOf letter) i
 unfolding formOf
 says-nothing names line letter i h =
     let is = both (eqb letter 32) (eqb i (length line)) h in
@@ -64,7 +64,8 @@ says-nothing names line letter i h =
     rw blank (nothing-said names line i (eqb-true _ _ (is .1)))
 
 pub nothing-left : {names : List (List ℕ)} {line k : List ℕ} {i : ℕ} → allOver k (length line) i ≡ true
-    → Rest names line k i (stopped A.Nothing i) (stopped A.Nothing i) (stopped A.Nothing i) (stopped A.Nothing i)
+    → Rest names line k i (stopped Argument.Nothing i) (stopped Argument.Nothing i) (stopped Argument.Nothing i)
+    (stopped Argument.Nothing i)
 unfolding formOf
 nothing-left {names} {line} {k} {i} h =
     let now : Bool = over (getD k 3 0) (length line) i in

@@ -9,13 +9,13 @@ use types.Run.{OneOf, miss}
 use denote.Enum.Declared.{tagOf}
 use Rattle.table.specs.declared.Item.{Item}
 use Rattle.word.specs.declared.Span.{Span}
-use Rattle.word.specs.declared.Found.the-variants.{At as at, Nothing as nowhere}
+use Rattle.word.specs.declared.Found.the-variants as Found
 use Rattle.word.specs.Word.{wordAt, part, seek}
 use Rattle.argument.specs.declared.Refusal.{Refusal}
-use Rattle.argument.specs.declared.Refusal.the-variants as R
+use Rattle.argument.specs.declared.Refusal.the-variants as Refusal
 use Rattle.argument.specs.Refusal.{numberOf}
 use Rattle.argument.specs.declared.Argument.{Argument}
-use Rattle.argument.specs.declared.Argument.the-variants as A
+use Rattle.argument.specs.declared.Argument.the-variants as Argument
 use Rattle.argument.specs.Holds.{wrongOf}
 use Rattle.argument.specs.Code.{numbered}
 use lib.ListN.{length}
@@ -29,15 +29,15 @@ use Rattle.line.specs.Line.{item, refused, argumentsAt, lower, lowest, v
 
 below : (r : Refusal) → numberOf r < 19
 unfolding numberOf
-below R.TooLong = omega arith
-below R.NoEnd = omega arith
-below R.LongLine = omega arith
-below R.TooManyItems = omega arith
-below R.UnknownCommand = omega arith
-below R.BadArguments = omega arith
-below R.Undeclared = omega arith
-below R.DeclaredTwice = omega arith
-below R.TooManyNames = omega arith
+below Refusal.TooLong = omega arith
+below Refusal.NoEnd = omega arith
+below Refusal.LongLine = omega arith
+below Refusal.TooManyItems = omega arith
+below Refusal.UnknownCommand = omega arith
+below Refusal.BadArguments = omega arith
+below Refusal.Undeclared = omega arith
+below Refusal.DeclaredTwice = omega arith
+below Refusal.TooManyNames = omega arith
 
 -- a number of form, if there is one
 abbrev OfForm : Option ℕ → Type 0
@@ -45,15 +45,15 @@ OfForm none = Unit {0}
 OfForm (some n) = n < 19
 
 of-form : (x : Argument) → OfForm (wrongOf x)
-of-form A.Nothing = tt
-of-form (A.Name y) = tt
-of-form (A.Operand y) = tt
-of-form (A.Literal y) = tt
-of-form (A.Letters y) = tt
-of-form (A.Number y) = tt
-of-form (A.Comparison y) = tt
-of-form (A.Text y) = tt
-of-form (A.Wrong y) = below y
+of-form Argument.Nothing = tt
+of-form (Argument.Name y) = tt
+of-form (Argument.Operand y) = tt
+of-form (Argument.Literal y) = tt
+of-form (Argument.Letters y) = tt
+of-form (Argument.Number y) = tt
+of-form (Argument.Comparison y) = tt
+of-form (Argument.Text y) = tt
+of-form (Argument.Wrong y) = below y
 
 left-is : (p q : Option ℕ) (x y : ℕ) → OfForm q
     → x ≡ numbered p → y ≡ numbered q → x < y → p ≡ lower p q
@@ -81,7 +81,7 @@ lower-right a b x y e f h = right-is (wrongOf a) (wrongOf b) x y (of-form a) e f
 -- ---- the judgement
 
 pub unknown : (names : List (List ℕ)) (line : List ℕ) (i : ℕ) (w : Span)
-    → w ≡ wordAt line i → seek commandWords (part line w) ≡ nowhere → refused 14 ≡ judged names line i
+    → w ≡ wordAt line i → seek commandWords (part line w) ≡ Found.Nothing → refused 14 ≡ judged names line i
 unfolding judged
 unknown names line i w e f = rw (← e, f) refl
 
@@ -93,7 +93,7 @@ past names line i h =
 -- a line whose word w is the command of row k, with what its arguments say
 pub record Asked (names : List (List ℕ)) (line : List ℕ) (i : ℕ) (w : Span) (k : ℕ) (x : Arguments) : Type 0 where
   pub word : w ≡ wordAt line i
-  pub row : seek commandWords (part line w) ≡ at k
+  pub row : seek commandWords (part line w) ≡ Found.At k
   pub says : x ≡ argumentsAt names line (commandAt k .shape) (w .end)
 
 known : {names : List (List ℕ)} {line : List ℕ} {i k : ℕ} {w : Span} {x : Arguments}
@@ -103,7 +103,7 @@ known q = rw (← q .word, q .row, q .says) refl
 
 -- the worst argument is wrong
 pub faulty : {names : List (List ℕ)} {line : List ℕ} {i k : ℕ} {w : Span} {x : Arguments}
-    → Asked names line i w k x → (y : Argument) (r : Refusal) → wrongOf y ≡ lowest x → y ≡ A.Wrong r
+    → Asked names line i w k x → (y : Argument) (r : Refusal) → wrongOf y ≡ lowest x → y ≡ Argument.Wrong r
     → refused (numberOf r) ≡ judged names line i
 faulty {x = x} q y r e f =
     let z : lowest x ≡ some (numberOf r) = sym e ∙ ap wrongOf f in
@@ -114,15 +114,15 @@ abbrev pub right : List ℕ
 right = 0 ∷ 1 ∷ 2 ∷ 3 ∷ 4 ∷ 5 ∷ 6 ∷ 7 ∷ []
 
 not-wrong : (y : Argument) → OneOf right (tagOf the-type y) → wrongOf y ≡ none
-not-wrong A.Nothing k = refl
-not-wrong (A.Name y) k = refl
-not-wrong (A.Operand y) k = refl
-not-wrong (A.Literal y) k = refl
-not-wrong (A.Letters y) k = refl
-not-wrong (A.Number y) k = refl
-not-wrong (A.Comparison y) k = refl
-not-wrong (A.Text y) k = refl
-not-wrong (A.Wrong y) k = absurd (miss right 8 tt k)
+not-wrong Argument.Nothing k = refl
+not-wrong (Argument.Name y) k = refl
+not-wrong (Argument.Operand y) k = refl
+not-wrong (Argument.Literal y) k = refl
+not-wrong (Argument.Letters y) k = refl
+not-wrong (Argument.Number y) k = refl
+not-wrong (Argument.Comparison y) k = refl
+not-wrong (Argument.Text y) k = refl
+not-wrong (Argument.Wrong y) k = absurd (miss right 8 tt k)
 
 -- none is
 pub good : {names : List (List ℕ)} {line : List ℕ} {i k : ℕ} {w : Span} {x : Arguments}

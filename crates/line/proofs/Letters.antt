@@ -13,7 +13,7 @@ use Rattle.line.specs.Code.{rowOf}
 use Rattle.line.specs.Command.{commands, tagCommand, commandWords}
 use Rattle.text.specs.Bytes.{ascii}
 use Rattle.word.specs.declared.Found.{Found}
-use Rattle.word.specs.declared.Found.the-variants.{At as at, Nothing as nowhere}
+use Rattle.word.specs.declared.Found.the-variants as Found
 use Rattle.word.specs.Word.{padded, sameBytes, place, seek}
 
 -- ---- a letter with its words, and the rows at which they stand
@@ -24,9 +24,10 @@ Letter c words rows = (t : List ℕ) → rowOf rows (place 0 words (c ∷ t)) �
 
 -- the first of five tests that holds
 first : (a b c d e : Bool) (rows : List ℕ)
-    → rowOf rows (cond a (at 0) (cond b (at 1) (cond c (at 2) (cond d (at 3) (cond e (at 4) nowhere)))))
-    ≡ cond a (at (getD rows 0 0)) (cond b (at (getD rows 1 0)) (cond c (at (getD rows 2 0))
-    (cond d (at (getD rows 3 0)) (cond e (at (getD rows 4 0)) nowhere))))
+    → rowOf rows (cond a (Found.At 0) (cond b (Found.At 1) (cond c (Found.At 2) (cond d (Found.At 3)
+    (cond e (Found.At 4) Found.Nothing)))))
+    ≡ cond a (Found.At (getD rows 0 0)) (cond b (Found.At (getD rows 1 0)) (cond c (Found.At (getD rows 2 0))
+    (cond d (Found.At (getD rows 3 0)) (cond e (Found.At (getD rows 4 0)) Found.Nothing))))
 first true b c d e rows = refl
 first false true c d e rows = refl
 first false false true d e rows = refl
@@ -167,7 +168,8 @@ by-letter (x ∷ s) c words rows l h e = go (leb (length (x ∷ s)) 16)
     same = rw e (l tail)
 
     go : (b : Bool)
-        → rowOf rows (cond b (place 0 words (x ∷ tail)) nowhere) ≡ cond b (place 0 commandWords (x ∷ tail)) nowhere
+        → rowOf rows (cond b (place 0 words (x ∷ tail)) Found.Nothing)
+        ≡ cond b (place 0 commandWords (x ∷ tail)) Found.Nothing
     go true = same
     go false = refl
 
@@ -195,7 +197,7 @@ other c x (k ∷ ks) m o e = go (eqb c k) refl m (λ m'. other c x ks m' (o .0) 
     go false q m' later = later m'
 
 not-placed : (i x : ℕ) (t : List ℕ) (rows : List (List ℕ)) → covered rows ≡ true → Others letters x
-    → place i rows (x ∷ t) ≡ nowhere
+    → place i rows (x ∷ t) ≡ Found.Nothing
 unfolding place sameBytes covered
 not-placed i x t [] h o = refl
 not-placed i x t ([] ∷ rows) h o = not-placed (i + 1) x t rows h o
@@ -207,7 +209,7 @@ all-covered : covered commandWords ≡ true
 unfolding covered member commandWords commands tagCommand padded
 all-covered = refl
 
-pub no-letter : (w : List ℕ) → (length w ≡ 0 → ⊥) → Others letters (getD w 0 0) → nowhere ≡ seek commandWords w
+pub no-letter : (w : List ℕ) → (length w ≡ 0 → ⊥) → Others letters (getD w 0 0) → Found.Nothing ≡ seek commandWords w
 unfolding seek padded
 no-letter [] h o = absurd (h refl)
 no-letter (x ∷ s) h o = go (leb (length (x ∷ s)) 16)
@@ -215,11 +217,11 @@ no-letter (x ∷ s) h o = go (leb (length (x ∷ s)) 16)
     tail : List ℕ
     tail = take 15 s ++ replicate (16 - length (x ∷ s)) 32
 
-    go : (b : Bool) → nowhere ≡ cond b (place 0 commandWords (x ∷ tail)) nowhere
+    go : (b : Bool) → Found.Nothing ≡ cond b (place 0 commandWords (x ∷ tail)) Found.Nothing
     go true = sym (not-placed 0 x tail commandWords all-covered o)
     go false = refl
 
-pub no-bytes : (w : List ℕ) → length w ≡ 0 → nowhere ≡ seek commandWords w
+pub no-bytes : (w : List ℕ) → length w ≡ 0 → Found.Nothing ≡ seek commandWords w
 unfolding seek commandWords commands padded tagCommand place sameBytes
 no-bytes [] h = refl
 no-bytes (x ∷ s) h = absurd (omega arith)

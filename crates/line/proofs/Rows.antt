@@ -7,7 +7,7 @@ use mathlib.Core.Path.{_≡_, refl, sym, _∙_, ap}
 use native.Mathlib.Omega.{arith}
 use Prim.Native.Nat.{ℕ, zero, suc, _+_, _-_, _≤_}
 use Rattle.line.specs.Command.{Command, commands, tagCommand, commandAt}
-use Rattle.line.specs.declared.Make.the-variants as M
+use Rattle.line.specs.declared.Make.the-variants as Make
 use Rattle.word.specs.Word.{padded}
 
 pub both : (a b : Bool) → (a && b) ≡ true → (a ≡ true) × (b ≡ true)
@@ -41,7 +41,7 @@ same-tail : (d : Command) (m : ℕ) → d ≡ getD (d ∷ []) m d
 same-tail d zero = refl
 same-tail d (suc m) = refl
 
-pub last-make : (k : ℕ) → 28 ≤ k → M.Tag ≡ commandAt k .make
+pub last-make : (k : ℕ) → 28 ≤ k → Make.Tag ≡ commandAt k .make
 unfolding commandAt commands tagCommand
 last-make k h = ap (λ (c : Command). c .make) (same-tail tagCommand (k - 28) ∙ sym (from-row 28 k commands h))
 

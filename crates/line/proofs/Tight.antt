@@ -7,15 +7,16 @@ use Rattle.table.specs.declared.Item.{Item}
 use Rattle.argument.specs.Refusal.{numberOf}
 use Rattle.argument.proofs.Refusals.{same-number}
 use Rattle.line.specs.declared.Judged.{Judged}
-use Rattle.line.specs.declared.Judged.the-variants as J
+use Rattle.line.specs.declared.Judged.the-variants as Judged
 use Rattle.line.specs.Line.{meaning, judged}
 
 same-meaning : (r r' : Judged) → meaning r ≡ meaning r' → r ≡ r'
 unfolding meaning
-same-meaning (J.Item a) (J.Item b) e = let q : a ≡ b = cc in ap J.Item q
-same-meaning (J.Item a) (J.Refused b) e = let z : _≡_ {A = ℕ} 0 1 = cc in absurd (omega arith)
-same-meaning (J.Refused a) (J.Item b) e = let z : _≡_ {A = ℕ} 0 1 = cc in absurd (omega arith)
-same-meaning (J.Refused a) (J.Refused b) e = let q : numberOf a ≡ numberOf b = cc in ap J.Refused (same-number a b q)
+same-meaning (Judged.Item a) (Judged.Item b) e = let q : a ≡ b = cc in ap Judged.Item q
+same-meaning (Judged.Item a) (Judged.Refused b) e = let z : _≡_ {A = ℕ} 0 1 = cc in absurd (omega arith)
+same-meaning (Judged.Refused a) (Judged.Item b) e = let z : _≡_ {A = ℕ} 0 1 = cc in absurd (omega arith)
+same-meaning (Judged.Refused a) (Judged.Refused b) e =
+    let q : numberOf a ≡ numberOf b = cc in ap Judged.Refused (same-number a b q)
 
 pub only-judge-line : (script : List ℕ) (i : ℕ) (names : List (List ℕ)) (r r' : Judged)
     → meaning r ≡ judged names script i → meaning r' ≡ judged names script i → r ≡ r'

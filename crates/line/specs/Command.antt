@@ -29,15 +29,15 @@ use Rattle.argument.specs.declared.Form.the-variants as Form
 use Rattle.argument.specs.Holds.{nameOf, operandOf, valueOf, lettersOf, smallOf, comparisonOf, textOf}
 pub use Rattle.line.specs.declared.Arguments.{Arguments}
 pub use Rattle.line.specs.declared.MakeAct.{MakeAct}
-pub use Rattle.line.specs.declared.MakeAct.the-variants as A
+pub use Rattle.line.specs.declared.MakeAct.the-variants as MakeAct
 pub use Rattle.line.specs.declared.MakePack.{MakePack}
-pub use Rattle.line.specs.declared.MakePack.the-variants as P
+pub use Rattle.line.specs.declared.MakePack.the-variants as MakePack
 pub use Rattle.line.specs.declared.MakeHead.{MakeHead}
-pub use Rattle.line.specs.declared.MakeHead.the-variants as H
+pub use Rattle.line.specs.declared.MakeHead.the-variants as MakeHead
 pub use Rattle.line.specs.declared.MakeBranch.{MakeBranch}
-pub use Rattle.line.specs.declared.MakeBranch.the-variants as B
+pub use Rattle.line.specs.declared.MakeBranch.the-variants as MakeBranch
 pub use Rattle.line.specs.declared.Make.{Make}
-pub use Rattle.line.specs.declared.Make.the-variants as M
+pub use Rattle.line.specs.declared.Make.the-variants as Make
 
 -- ---- what a command makes of its arguments
 
@@ -56,43 +56,43 @@ sweepOf x =
     }
 
 abbrev pub actOf : MakeAct → Argument → Argument → Argument → Act
-actOf A.Var a b c = Act.Var (nameOf a)
-actOf A.Store a b c = Act.Store (nameOf a) (valueOf b) (lettersOf c)
-actOf A.Copy a b c = Act.Copy (nameOf a) (nameOf b)
-actOf (A.Calc o) a b c = Act.Calc o (nameOf a) (operandOf b)
-actOf A.Meas a b c = Act.Meas (operandOf a) (nameOf b) (lettersOf c)
-actOf A.TimerGet a b c = Act.TimerGet (nameOf a)
-actOf A.SendString a b c = Act.SendString (textOf a)
-actOf A.Wait a b c = Act.Wait (operandOf a)
-actOf A.SetE a b c = Act.SetE (operandOf a)
-actOf A.SetMode a b c = Act.SetMode (smallOf a)
-actOf A.TimerStart a b c = Act.TimerStart
-actOf A.CellOn a b c = Act.CellOn
-actOf A.CellOff a b c = Act.CellOff
-actOf A.Abort a b c = Act.Abort
+actOf MakeAct.Var a b c = Act.Var (nameOf a)
+actOf MakeAct.Store a b c = Act.Store (nameOf a) (valueOf b) (lettersOf c)
+actOf MakeAct.Copy a b c = Act.Copy (nameOf a) (nameOf b)
+actOf (MakeAct.Calc o) a b c = Act.Calc o (nameOf a) (operandOf b)
+actOf MakeAct.Meas a b c = Act.Meas (operandOf a) (nameOf b) (lettersOf c)
+actOf MakeAct.TimerGet a b c = Act.TimerGet (nameOf a)
+actOf MakeAct.SendString a b c = Act.SendString (textOf a)
+actOf MakeAct.Wait a b c = Act.Wait (operandOf a)
+actOf MakeAct.SetE a b c = Act.SetE (operandOf a)
+actOf MakeAct.SetMode a b c = Act.SetMode (smallOf a)
+actOf MakeAct.TimerStart a b c = Act.TimerStart
+actOf MakeAct.CellOn a b c = Act.CellOn
+actOf MakeAct.CellOff a b c = Act.CellOff
+actOf MakeAct.Abort a b c = Act.Abort
 
 abbrev pub packOf : MakePack → Argument → Pack
-packOf P.Start a = Pack.Start
-packOf P.Add a = Pack.Add (nameOf a)
-packOf P.End a = Pack.End
+packOf MakePack.Start a = Pack.Start
+packOf MakePack.Add a = Pack.Add (nameOf a)
+packOf MakePack.End a = Pack.End
 
 abbrev pub headOf : MakeHead → Arguments → Head
-headOf H.If x = Head.If (conditionOf (x .a) (x .b) (x .c))
-headOf H.Loop x = Head.Loop (conditionOf (x .a) (x .b) (x .c))
-headOf H.Sweep x = Head.Sweep (sweepOf x)
+headOf MakeHead.If x = Head.If (conditionOf (x .a) (x .b) (x .c))
+headOf MakeHead.Loop x = Head.Loop (conditionOf (x .a) (x .b) (x .c))
+headOf MakeHead.Sweep x = Head.Sweep (sweepOf x)
 
 abbrev pub branchOf : MakeBranch → Argument → Argument → Argument → Branch
-branchOf B.ElseIf a b c = Branch.ElseIf (conditionOf a b c)
-branchOf B.Else a b c = Branch.Else
+branchOf MakeBranch.ElseIf a b c = Branch.ElseIf (conditionOf a b c)
+branchOf MakeBranch.Else a b c = Branch.Else
 
 abbrev pub itemOf : Make → Arguments → Item
-itemOf (M.Act m) x = Item.Act (actOf m (x .a) (x .b) (x .c))
-itemOf (M.Pack m) x = Item.Pack (packOf m (x .a))
-itemOf (M.Open m) x = Item.Open (headOf m x)
-itemOf (M.Branch m) x = Item.Branch (branchOf m (x .a) (x .b) (x .c))
-itemOf (M.Close m) x = Item.Close m
-itemOf M.Break x = Item.Break
-itemOf M.Tag x = Item.Tag
+itemOf (Make.Act m) x = Item.Act (actOf m (x .a) (x .b) (x .c))
+itemOf (Make.Pack m) x = Item.Pack (packOf m (x .a))
+itemOf (Make.Open m) x = Item.Open (headOf m x)
+itemOf (Make.Branch m) x = Item.Branch (branchOf m (x .a) (x .b) (x .c))
+itemOf (Make.Close m) x = Item.Close m
+itemOf Make.Break x = Item.Break
+itemOf Make.Tag x = Item.Tag
 
 -- ---- the table
 
@@ -108,40 +108,40 @@ row w s m =
 
 unfoldable pub tagCommand : Command
 unfolding padded
-tagCommand = row "on_finished:" "" M.Tag
+tagCommand = row "on_finished:" "" Make.Tag
 
 -- the letters are those of 01, x also where it writes f; w is a new name, l a literal, o a comparison, s a text
 unfoldable pub commands : List Command
 unfolding padded tagCommand
 commands =
-    row "var" "w" (M.Act A.Var) ∷
-    row "store_var" "vlt" (M.Act A.Store) ∷
-    row "copy_var" "vv" (M.Act A.Copy) ∷
-    row "add_var" "vx" (M.Act (A.Calc Operation.Add)) ∷
-    row "sub_var" "vx" (M.Act (A.Calc Operation.Sub)) ∷
-    row "mul_var" "vx" (M.Act (A.Calc Operation.Mul)) ∷
-    row "div_var" "vx" (M.Act (A.Calc Operation.Div)) ∷
-    row "if" "xox" (M.Open H.If) ∷
-    row "elseif" "xox" (M.Branch B.ElseIf) ∷
-    row "loop" "xox" (M.Open H.Loop) ∷
-    row "meas_loop_lsv" "vvxxxx" (M.Open H.Sweep) ∷
-    row "meas" "xvt" (M.Act A.Meas) ∷
-    row "timer_get" "v" (M.Act A.TimerGet) ∷
-    row "pck_add" "v" (M.Pack P.Add) ∷
-    row "send_string" "s" (M.Act A.SendString) ∷
-    row "wait" "x" (M.Act A.Wait) ∷
-    row "set_e" "x" (M.Act A.SetE) ∷
-    row "set_pgstat_mode" "n" (M.Act A.SetMode) ∷
-    row "else" "" (M.Branch B.Else) ∷
-    row "endif" "" (M.Close Close.EndIf) ∷
-    row "endloop" "" (M.Close Close.EndLoop) ∷
-    row "breakloop" "" M.Break ∷
-    row "timer_start" "" (M.Act A.TimerStart) ∷
-    row "pck_start" "" (M.Pack P.Start) ∷
-    row "pck_end" "" (M.Pack P.End) ∷
-    row "cell_on" "" (M.Act A.CellOn) ∷
-    row "cell_off" "" (M.Act A.CellOff) ∷
-    row "abort" "" (M.Act A.Abort) ∷
+    row "var" "w" (Make.Act MakeAct.Var) ∷
+    row "store_var" "vlt" (Make.Act MakeAct.Store) ∷
+    row "copy_var" "vv" (Make.Act MakeAct.Copy) ∷
+    row "add_var" "vx" (Make.Act (MakeAct.Calc Operation.Add)) ∷
+    row "sub_var" "vx" (Make.Act (MakeAct.Calc Operation.Sub)) ∷
+    row "mul_var" "vx" (Make.Act (MakeAct.Calc Operation.Mul)) ∷
+    row "div_var" "vx" (Make.Act (MakeAct.Calc Operation.Div)) ∷
+    row "if" "xox" (Make.Open MakeHead.If) ∷
+    row "elseif" "xox" (Make.Branch MakeBranch.ElseIf) ∷
+    row "loop" "xox" (Make.Open MakeHead.Loop) ∷
+    row "meas_loop_lsv" "vvxxxx" (Make.Open MakeHead.Sweep) ∷
+    row "meas" "xvt" (Make.Act MakeAct.Meas) ∷
+    row "timer_get" "v" (Make.Act MakeAct.TimerGet) ∷
+    row "pck_add" "v" (Make.Pack MakePack.Add) ∷
+    row "send_string" "s" (Make.Act MakeAct.SendString) ∷
+    row "wait" "x" (Make.Act MakeAct.Wait) ∷
+    row "set_e" "x" (Make.Act MakeAct.SetE) ∷
+    row "set_pgstat_mode" "n" (Make.Act MakeAct.SetMode) ∷
+    row "else" "" (Make.Branch MakeBranch.Else) ∷
+    row "endif" "" (Make.Close Close.EndIf) ∷
+    row "endloop" "" (Make.Close Close.EndLoop) ∷
+    row "breakloop" "" Make.Break ∷
+    row "timer_start" "" (Make.Act MakeAct.TimerStart) ∷
+    row "pck_start" "" (Make.Pack MakePack.Start) ∷
+    row "pck_end" "" (Make.Pack MakePack.End) ∷
+    row "cell_on" "" (Make.Act MakeAct.CellOn) ∷
+    row "cell_off" "" (Make.Act MakeAct.CellOff) ∷
+    row "abort" "" (Make.Act MakeAct.Abort) ∷
     tagCommand ∷ []
 
 unfoldable pub commandWords : List (List ℕ)

@@ -7,16 +7,16 @@ use lib.Dec.{ltb}
 use lib.ListN.{getD}
 use Rattle.table.specs.declared.Item.{Item}
 use Rattle.word.specs.declared.Found.{Found}
-use Rattle.word.specs.declared.Found.the-variants.{At as at, Nothing as nowhere}
+use Rattle.word.specs.declared.Found.the-variants as Found
 use Rattle.word.specs.Word.{wordAt, part, seek}
 use Rattle.argument.specs.Refusal.{numberOf}
-use Rattle.argument.specs.declared.Form.the-variants.{Nothing}
+use Rattle.argument.specs.declared.Form.the-variants as Form
 use Rattle.argument.specs.declared.Said.{Said}
 use Rattle.argument.specs.Argument.{saidAt}
 use Rattle.argument.specs.Holds.{wrongOf}
 use Rattle.line.specs.Command.{Command, Arguments, itemOf, commandWords, commandAt, formOf}
 use Rattle.line.specs.declared.Judged.{Judged}
-use Rattle.line.specs.declared.Judged.the-variants as J
+use Rattle.line.specs.declared.Judged.the-variants as Judged
 
 -- a line's item, or a number
 pub data Judgement : Type 0 where
@@ -24,8 +24,8 @@ pub data Judgement : Type 0 where
   refused : ℕ → Judgement
 
 unfoldable pub meaning : Judged → Judgement
-meaning (J.Item it) = item it
-meaning (J.Refused r) = refused (numberOf r)
+meaning (Judged.Item it) = item it
+meaning (Judged.Refused r) = refused (numberOf r)
 
 -- all arguments, and that nothing follows them
 unfoldable pub argumentsAt : List (List ℕ) → List ℕ → List ℕ → ℕ → Arguments
@@ -36,7 +36,7 @@ argumentsAt names line k i =
     let d : Said = saidAt names line (formOf (getD k 3 0)) (c .stop) in
     let e : Said = saidAt names line (formOf (getD k 4 0)) (d .stop) in
     let f : Said = saidAt names line (formOf (getD k 5 0)) (e .stop) in
-    let g : Said = saidAt names line Nothing (f .stop) in
+    let g : Said = saidAt names line Form.Nothing (f .stop) in
     record {
       a = a .argument;
       b = b .argument;
@@ -67,8 +67,8 @@ verdict c x = orItem (lowest x) (itemOf (c .make) x)
 
 -- 14 for an unknown command, else what its arguments say
 abbrev pub byCommand : List (List ℕ) → List ℕ → ℕ → Found → Judgement
-byCommand names line i nowhere = refused 14
-byCommand names line i (at k) = verdict (commandAt k) (argumentsAt names line (commandAt k .shape) i)
+byCommand names line i Found.Nothing = refused 14
+byCommand names line i (Found.At k) = verdict (commandAt k) (argumentsAt names line (commandAt k .shape) i)
 
 -- the line that stands from a place up to the end of these bytes of the script
 unfoldable pub judged : List (List ℕ) → List ℕ → ℕ → Judgement

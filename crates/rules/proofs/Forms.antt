@@ -3,6 +3,7 @@ use mathlib.Core.Path.{_≡_, refl, sym, ap, _∙_, subst}
 use mathlib.Core.Bool.{Bool, true, false, cond}
 use mathlib.Core.List.{List, [], _∷_}
 use lib.Dec.{eqb, T}
+pub use Rattle.laws.proofs.Bools.{no}
 use Rattle.table.specs.declared.Item.{Item}
 use Rattle.table.specs.declared.Item.the-variants as Item
 use Rattle.table.specs.declared.Pack.the-variants as Pack
@@ -16,9 +17,6 @@ use Rattle.rules.specs.Check.{sameName}
 use Rattle.rules.specs.Code.{Form, headForm, plainForm, formBy}
 use Rattle.rules.specs.Code.{isWrong, isOpen, isBranch, isClose, isTag, isTwice, sortIn, orderIn}
 use Rattle.rules.specs.declared.briefs.Form.the-variants as Form
-
-pub no : {X : Type 0} → true ≡ false → X
-no e = absurd (subst T e tt)
 
 pub record Formed (x : Item) (f : Form) : Type 0 where
   pub right : isWrong f ≡ false

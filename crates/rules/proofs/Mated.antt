@@ -9,6 +9,7 @@ use native.Mathlib.Omega.{arith}
 use lib.Dec.{eqb, T}
 use lib.ListN.{length, take, drop, replicate}
 use borrow.Author.Tests.{eq-eqb}
+use Rattle.laws.proofs.Bools.{no}
 use Rattle.table.specs.declared.Item.{Item}
 use Rattle.table.specs.declared.Item.the-variants as Item
 use Rattle.table.specs.declared.Script.{Script}
@@ -23,9 +24,6 @@ use Rattle.rules.specs.Check.{refused, orGo, walk, atLine, walked, verdi
 use Rattle.rules.specs.Mated.{isFound, Mated}
 use Rattle.rules.proofs.Rows.{no-refusal, no-refusal-at-end}
 use Rattle.rules.proofs.Placed.{Box, Placed, atStart, placed, plains, bare, after, same-walk}
-
-no : {X : Type 0} → true ≡ false → X
-no e = absurd (subst T e tt)
 
 orGo-accepted : (n i : ℕ) (v : Verdict) → orGo n i v ≡ accepted → (n ≡ 0) × (v ≡ accepted)
 orGo-accepted zero i v e = (refl, e)

@@ -9,6 +9,7 @@ use lib.Dec.{eqb, leb}
 use lib.ListN.{length, getD, set, length-set}
 use lib.Seq.{getD-set-same, getD-set-other}
 use borrow.Author.Tests.{eqb-true, eqb-false, leb-true}
+use Rattle.laws.proofs.Bools.{and-l, and-r}
 use Rattle.table.specs.declared.Item.{Item}
 use Rattle.table.specs.declared.Slot.{Slot}
 use Rattle.table.specs.declared.Script.{Script}
@@ -87,30 +88,21 @@ all-noted {t} {k} {i} rs ws fs p h l = record {
 
 -- ---- a table in shape
 
-and-left : (a b : Bool) → (a && b) ≡ true → a ≡ true
-and-left true b e = refl
-and-left false b e = e
-
-and-right : (a b : Bool) → (a && b) ≡ true → b ≡ true
-and-right true b e = e
-and-right false true e = refl
-and-right false false e = e
-
 module _ (names size : ℕ) where
   item-ok-at : (n i : ℕ) (ss : List Slot) → i < n → n ≤ length ss → itemsOk names size (itemsIn n ss) ≡ true
       → itemOk names size ((getD ss i noSlot) .item) ≡ true
   item-ok-at zero i ss h l e = absurd (not-suc-le-zero h)
   item-ok-at (suc n) i [] h l e = absurd (not-suc-le-zero l)
   item-ok-at (suc n) zero (s ∷ ss) h l e =
-      and-left (itemOk names size (s .item)) (itemsOk names size (itemsIn n ss)) e
+      and-l (itemOk names size (s .item)) (itemsOk names size (itemsIn n ss)) e
   item-ok-at (suc n) (suc i) (s ∷ ss) h l e =
       item-ok-at n i ss (le-of-suc-le-suc h) (le-of-suc-le-suc l)
-      (and-right (itemOk names size (s .item)) (itemsOk names size (itemsIn n ss)) e)
+      (and-r (itemOk names size (s .item)) (itemsOk names size (itemsIn n ss)) e)
 
   wants-ok : (x : Item) → itemOk names size x ≡ true → wantsOk names (uses x) ≡ true
   wants-ok x e =
-      and-right (ownOk names size x) (wantsOk names (uses x))
-      (and-left (ownOk names size x && wantsOk names (uses x)) (givesOk names (gives x)) e)
+      and-r (ownOk names size x) (wantsOk names (uses x))
+      (and-l (ownOk names size x && wantsOk names (uses x)) (givesOk names (gives x)) e)
 
 module _ (size : ℕ) (t : Script) (shape : inShape size t ≡ true) where
   abbrev counts : Bool
@@ -118,19 +110,19 @@ module _ (size : ℕ) (t : Script) (shape : inShape size t ≡ true) where
 
   counted : counts ≡ true
   unfolding inShape
-  counted = and-left counts (itemsOk (t .names) size (itemsOf t)) shape
+  counted = and-l counts (itemsOk (t .names) size (itemsOf t)) shape
 
   all-ok : itemsOk (t .names) size (itemsOf t) ≡ true
   unfolding inShape
-  all-ok = and-right counts (itemsOk (t .names) size (itemsOf t)) shape
+  all-ok = and-r counts (itemsOk (t .names) size (itemsOf t)) shape
 
   pub few-items : t .count ≤ 128
-  few-items = leb-true (t .count) 128 (and-left (leb (t .count) 128) (leb (t .names) 32) counted)
+  few-items = leb-true (t .count) 128 (and-l (leb (t .count) 128) (leb (t .names) 32) counted)
 
   pub reached : length (t .items) ≡ 128 → Reached t
   reached l = record {
     items = few-items;
-    names = leb-true (t .names) 32 (and-right (leb (t .count) 128) (leb (t .names) 32) counted);
+    names = leb-true (t .names) 32 (and-r (leb (t .count) 128) (leb (t .names) 32) counted);
     each = λ i h. wants-ok (t .names) size (slotAt t i .item)
         (item-ok-at (t .names) size (t .count) i (t .items) h (omega (arith, few-items, l)) all-ok);
   }

@@ -1,7 +1,7 @@
 -- Rows of tests: those of what the code holds are those of the definition, whatever boxes are around. Assumes nothing.
 use Prim.Native.Nat.{ℕ, zero, suc, _<_}
 use mathlib.Core.Path.{_≡_, refl, sym, _∙_, ap, ap₂}
-use mathlib.Core.Bool.{Bool, true, false, not, _&&_, _||_, cond}
+use mathlib.Core.Bool.{Bool, true, false, not, _&&_, _||_, cond, or-false}
 use mathlib.Core.List.{List, [], _∷_}
 use native.Mathlib.Omega.{arith}
 use lib.Dec.{leb, eqb}
@@ -32,10 +32,6 @@ pub same-rows : {a a' b b' c c' d d' e e' f f' g g' h h' : Bool}
 same-rows p q r s t u v w = rw (p, q, r, s, t, u, v, w)
 
 -- ---- one test at a time; the depth is cased on
-
-or-false : (b : Bool) → (b || false) ≡ b
-or-false true = refl
-or-false false = refl
 
 swap : (q : Bool) (x y : Names) → cond (not q) x y ≡ cond q y x
 swap true x y = refl

@@ -7,6 +7,7 @@ use native.Mathlib.Omega.{arith}
 use lib.Dec.{T}
 use lib.ListN.{length, getD, set, replicate}
 use lib.Seq.{set-getD}
+use Rattle.laws.proofs.Bools.{no}
 use Rattle.table.specs.Uses.{Names, has, Kinds, kindAt, differ}
 use Rattle.sets.specs.Names.{nothing, namesOf}
 use Rattle.sets.proofs.Bits.{length-names}
@@ -15,9 +16,6 @@ use Rattle.table.specs.declared.Known.the-variants as Known
 use Rattle.table.specs.declared.Kind.the-variants as Kind
 use Rattle.rules.specs.Check.{isKnown, orElse}
 use Rattle.rules.specs.Code.{Sorted, kindBy, kindsBy, kindsIn, isWhole, isFloat, learnt}
-
-no : {X : Type 0} → true ≡ false → X
-no e = absurd (subst T e tt)
 
 -- ---- the kind of a name
 

@@ -1,42 +1,14 @@
 -- Small laws that the proofs share.
 use Prim.Native.Nat.{ℕ, zero, suc}
-use mathlib.Core.Path.{_≡_, refl, sym, ap, _∙_, subst}
+use mathlib.Core.Path.{_≡_, refl, sym, ap, _∙_}
 use mathlib.Core.Logic.{_⊎_, inl, inr}
 use mathlib.Core.Bool.{Bool, true, false, not, _&&_, _||_, cond}
 use mathlib.Core.List.{List, [], _∷_}
 use native.Mathlib.Omega.{arith}
-use lib.Dec.{T}
 use lib.ListN.{getD, set, replicate}
+pub use Rattle.laws.proofs.Bools.{no, no′, or-l, or-r, or-f, and-l, and-r, and-t}
 use Rattle.table.specs.Uses.{Names, has}
 use Rattle.sets.specs.Names.{nothing, both}
-
-pub no : {X : Type 0} → true ≡ false → X
-no e = absurd (subst T e tt)
-
-pub no′ : {X : Type 0} → false ≡ true → X
-no′ e = no (sym e)
-
-pub or-l : (a b : Bool) → (a || b) ≡ false → a ≡ false
-or-l true b e = e
-or-l false b e = refl
-
-pub or-r : (a b : Bool) → (a || b) ≡ false → b ≡ false
-or-r true b e = no e
-or-r false b e = e
-
-pub or-f : {a b : Bool} → a ≡ false → b ≡ false → (a || b) ≡ false
-or-f {a} {b} p q = rw p q
-
-pub and-l : (a b : Bool) → (a && b) ≡ true → a ≡ true
-and-l true b e = refl
-and-l false b e = e
-
-pub and-r : (a b : Bool) → (a && b) ≡ true → b ≡ true
-and-r true b e = e
-and-r false b e = no′ e
-
-pub and-t : {a b : Bool} → a ≡ true → b ≡ true → (a && b) ≡ true
-and-t {a} {b} p q = rw p q
 
 -- the first of a row of tests says false, and so do the others
 pub skip : (n : ℕ) (b : Bool) (r : ℕ) → cond b (suc n) r ≡ 0 → (b ≡ false) × (r ≡ 0)

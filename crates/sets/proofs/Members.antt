@@ -8,9 +8,15 @@ use native.Mathlib.Nat.{not-suc-le-zero, le-of-suc-le-suc}
 use lib.Dec.{ltb}
 use lib.ListN.{length, set, replicate, length-set}
 use borrow.Author.Tests.{ltb-true}
+use Rattle.laws.proofs.Bools.{and-l, and-r}
 use Rattle.table.specs.Uses.{Names, has, gone, missing}
 use Rattle.table.specs.Shape.{operandOk, wantsOk}
-use Rattle.sets.specs.Words.{Operand, name, literal, Want, any, alike, floats, Give, like, float}
+use Rattle.table.specs.declared.Operand.{Operand}
+use Rattle.table.specs.declared.Operand.the-variants as Operand
+use Rattle.table.specs.declared.Want.{Want}
+use Rattle.table.specs.declared.Want.the-variants as Want
+use Rattle.table.specs.declared.Give.{Give}
+use Rattle.table.specs.declared.Give.the-variants as Give
 use Rattle.sets.specs.Names.{nothing, either, outside, ask, asks, put}
 
 or-none : (a : Bool) → (a || false) ≡ a
@@ -31,9 +37,9 @@ set-either (a ∷ s) (b ∷ t) (suc n) e = ap (λ (l : Names). (a || b) ∷ l) (
 
 put-more : (s t : Names) (gs : List Give) → length s ≡ length t → put (either s t) gs ≡ either s (put t gs)
 put-more s t [] e = refl
-put-more s t (like n x ∷ gs) e =
+put-more s t (Give.Like n x ∷ gs) e =
     ap (λ (l : Names). put l gs) (set-either s t n e) ∙ put-more s (set t n true) gs (e ∙ sym (length-set t n true))
-put-more s t (float n ∷ gs) e =
+put-more s t (Give.Float n ∷ gs) e =
     ap (λ (l : Names). put l gs) (set-either s t n e) ∙ put-more s (set t n true) gs (e ∙ sym (length-set t n true))
 
 either-none : (m : ℕ) (s : Names) → length s ≡ m → either s (replicate m false) ≡ s
@@ -77,17 +83,8 @@ outside-set (a ∷ t) (b ∷ s) (suc n) h e =
     by false y z = refl
 
 length-ask : (t : Names) (x : Operand) → length (ask t x) ≡ length t
-length-ask t (name n) = length-set t n true
-length-ask t (literal l) = refl
-
-and-left : (a b : Bool) → (a && b) ≡ true → a ≡ true
-and-left true b e = refl
-and-left false b e = e
-
-and-right : (a b : Bool) → (a && b) ≡ true → b ≡ true
-and-right true b e = e
-and-right false true e = refl
-and-right false false e = e
+length-ask t (Operand.Name n) = length-set t n true
+length-ask t (Operand.Literal l) = refl
 
 swap : (a b c : Bool) → (a || b || c) ≡ (a || (c || b))
 swap true b c = refl
@@ -111,31 +108,31 @@ swap-two false false false false = refl
 module _ (names : ℕ) (s : Names) (few : names ≤ length s) where
   outside-ask : (t : Names) (x : Operand) → length t ≡ length s → operandOk names x ≡ true
       → outside (ask t x) s ≡ (outside t s || gone (has s) x)
-  outside-ask t (name n) e o = outside-set t s n (omega (arith, ltb-true n names o)) e
-  outside-ask t (literal l) e o = sym (or-none (outside t s))
+  outside-ask t (Operand.Name n) e o = outside-set t s n (omega (arith, ltb-true n names o)) e
+  outside-ask t (Operand.Literal l) e o = sym (or-none (outside t s))
 
   outside-asks : (t : Names) (ws : List Want) → length t ≡ length s → wantsOk names ws ≡ true
       → outside (asks t ws) s ≡ (outside t s || missing (has s) ws)
   outside-asks t [] e o = sym (or-none (outside t s))
-  outside-asks t (any x ∷ ws) e o =
-      outside-asks (ask t x) ws (length-ask t x ∙ e) (and-left (wantsOk names ws) (operandOk names x) o)
+  outside-asks t (Want.Any x ∷ ws) e o =
+      outside-asks (ask t x) ws (length-ask t x ∙ e) (and-l (wantsOk names ws) (operandOk names x) o)
       ∙ ap (λ (b : Bool). b || missing (has s) ws)
-      (outside-ask t x e (and-right (wantsOk names ws) (operandOk names x) o))
+      (outside-ask t x e (and-r (wantsOk names ws) (operandOk names x) o))
       ∙ swap (outside t s) (gone (has s) x) (missing (has s) ws)
-  outside-asks t (alike x y ∷ ws) e o =
+  outside-asks t (Want.Alike x y ∷ ws) e o =
       let f : length (ask t x) ≡ length s = length-ask t x ∙ e in
-      let rest : wantsOk names ws ≡ true = and-left (wantsOk names ws) (operandOk names x && operandOk names y) o in
-      let two = and-right (wantsOk names ws) (operandOk names x && operandOk names y) o in
-      let one : operandOk names x ≡ true = and-left (operandOk names x) (operandOk names y) two in
-      let other : operandOk names y ≡ true = and-right (operandOk names x) (operandOk names y) two in
+      let rest : wantsOk names ws ≡ true = and-l (wantsOk names ws) (operandOk names x && operandOk names y) o in
+      let two = and-r (wantsOk names ws) (operandOk names x && operandOk names y) o in
+      let one : operandOk names x ≡ true = and-l (operandOk names x) (operandOk names y) two in
+      let other : operandOk names y ≡ true = and-r (operandOk names x) (operandOk names y) two in
       outside-asks (ask (ask t x) y) ws (length-ask (ask t x) y ∙ f) rest
       ∙ ap (λ (b : Bool). b || missing (has s) ws) (outside-ask (ask t x) y f other)
       ∙ ap (λ (b : Bool). b || gone (has s) y || missing (has s) ws) (outside-ask t x e one)
       ∙ swap-two (outside t s) (gone (has s) x) (gone (has s) y) (missing (has s) ws)
-  outside-asks t (floats x ∷ ws) e o =
-      outside-asks (ask t x) ws (length-ask t x ∙ e) (and-left (wantsOk names ws) (operandOk names x) o)
+  outside-asks t (Want.Float x ∷ ws) e o =
+      outside-asks (ask t x) ws (length-ask t x ∙ e) (and-l (wantsOk names ws) (operandOk names x) o)
       ∙ ap (λ (b : Bool). b || missing (has s) ws)
-      (outside-ask t x e (and-right (wantsOk names ws) (operandOk names x) o))
+      (outside-ask t x e (and-r (wantsOk names ws) (operandOk names x) o))
       ∙ swap (outside t s) (gone (has s) x) (missing (has s) ws)
 
 -- a name is read that is not among those that are there

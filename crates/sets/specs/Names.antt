@@ -5,7 +5,12 @@ use mathlib.Core.List.{List, [], _∷_}
 use lib.Dec.{eqb}
 use lib.ListN.{set, replicate}
 use Rattle.table.specs.Uses.{Names}
-use Rattle.sets.specs.Words.{Operand, name, literal, Want, any, alike, floats, Give, like, float}
+use Rattle.table.specs.declared.Operand.{Operand}
+use Rattle.table.specs.declared.Operand.the-variants as Operand
+use Rattle.table.specs.declared.Want.{Want}
+use Rattle.table.specs.declared.Want.the-variants as Want
+use Rattle.table.specs.declared.Give.{Give}
+use Rattle.table.specs.declared.Give.the-variants as Give
 
 abbrev pub nothing : Names
 nothing = replicate 32 false
@@ -31,20 +36,20 @@ outside (a ∷ s) (b ∷ t) = a && not b || outside s t
 
 -- the names of the set and those that are read
 abbrev pub ask : Names → Operand → Names
-ask s (name n) = set s n true
-ask s (literal l) = s
+ask s (Operand.Name n) = set s n true
+ask s (Operand.Literal l) = s
 
 abbrev pub asks : Names → List Want → Names
 asks s [] = s
-asks s (any x ∷ ws) = asks (ask s x) ws
-asks s (alike x y ∷ ws) = asks (ask (ask s x) y) ws
-asks s (floats x ∷ ws) = asks (ask s x) ws
+asks s (Want.Any x ∷ ws) = asks (ask s x) ws
+asks s (Want.Alike x y ∷ ws) = asks (ask (ask s x) y) ws
+asks s (Want.Float x ∷ ws) = asks (ask s x) ws
 
 -- the names of the set and those that are written
 abbrev pub put : Names → List Give → Names
 put s [] = s
-put s (like n x ∷ gs) = put (set s n true) gs
-put s (float n ∷ gs) = put (set s n true) gs
+put s (Give.Like n x ∷ gs) = put (set s n true) gs
+put s (Give.Float n ∷ gs) = put (set s n true) gs
 
 -- the lowest n bits of a word, the lowest first
 unfoldable pub bitsOf : ℕ → ℕ → Names

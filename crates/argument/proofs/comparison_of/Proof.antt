@@ -2,7 +2,7 @@ use mathlib.Core.Path.{refl}
 use mathlib.Core.List.{List, [], _∷_}
 use Prim.Native.Nat.{ℕ}
 use types.Run.{miss}
-use Rattle.value.specs.declared.Comparison.the-variants.{Equal as equal}
+use Rattle.value.specs.declared.Comparison.the-variants as Comparison
 use Rattle.argument.specs.Holds.{comparisonOf}
 use Rattle.argument.proofs.Apart.{Each, by-tag}
 use borrow.Author.Needs.{needs}
@@ -13,7 +13,7 @@ use Rattle.argument.proofs.comparison_of.Tie as tie
 abbrev others : List ℕ
 others = 0 ∷ 1 ∷ 2 ∷ 3 ∷ 4 ∷ 5 ∷ 7 ∷ 8 ∷ []
 
-rest : Each comparisonOf equal others
+rest : Each comparisonOf Comparison.Equal others
 rest = (
   λ k. refl,
   λ y k. refl,
@@ -33,7 +33,7 @@ returns : tie.Need-returns
 returns c = search needs
 
 returns-2 : tie.Need-returns-2
-returns-2 c = by-tag comparisonOf equal others rest (c .before .args .x) (c .match .keys2)
+returns-2 c = by-tag comparisonOf Comparison.Equal others rest (c .before .args .x) (c .match .keys2)
 
 pub comparison-of-spec : {M : Type 1} → statement M
 comparison-of-spec = tie.close (tie.spec enum-known-x returns returns-2)

@@ -5,7 +5,7 @@ use Prim.Native.Nat.{ℕ}
 use types.Run.{OneOf, miss}
 use denote.Enum.Declared.{tagOf}
 use Rattle.argument.specs.declared.Form.{Form}
-use Rattle.argument.specs.declared.Form.the-variants as F
+use Rattle.argument.specs.declared.Form.the-variants as Form
 use Rattle.argument.specs.Argument.{isText}
 use Rattle.argument.proofs.Form.{the-type}
 use borrow.Author.Needs.{needs}
@@ -17,15 +17,15 @@ abbrev others : List ℕ
 others = 0 ∷ 1 ∷ 2 ∷ 3 ∷ 4 ∷ 5 ∷ 6 ∷ 7 ∷ []
 
 rest : (form : Form) → OneOf others (tagOf the-type form) → false ≡ isText form
-rest F.Nothing k = refl
-rest F.New k = refl
-rest F.Name k = refl
-rest F.Operand k = refl
-rest F.Literal k = refl
-rest F.Letters k = refl
-rest F.Number k = refl
-rest F.Comparison k = refl
-rest F.Text k = absurd (miss others 8 tt k)
+rest Form.Nothing k = refl
+rest Form.New k = refl
+rest Form.Name k = refl
+rest Form.Operand k = refl
+rest Form.Literal k = refl
+rest Form.Letters k = refl
+rest Form.Number k = refl
+rest Form.Comparison k = refl
+rest Form.Text k = absurd (miss others 8 tt k)
 
 enum-told : tie.Need-enum-told
 enum-told c = search needs

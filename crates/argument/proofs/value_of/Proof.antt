@@ -3,7 +3,7 @@ use mathlib.Core.List.{List, [], _∷_}
 use Prim.Native.Nat.{ℕ}
 use lib.IntN.{pos}
 use types.Run.{miss}
-use Rattle.value.specs.declared.Value.the-variants.{Whole as whole}
+use Rattle.value.specs.declared.Value.the-variants as Value
 use Rattle.argument.specs.Holds.{valueOf}
 use Rattle.argument.proofs.Apart.{Each, by-tag}
 use borrow.Author.Needs.{needs}
@@ -14,7 +14,7 @@ use Rattle.argument.proofs.value_of.Tie as tie
 abbrev others : List ℕ
 others = 0 ∷ 1 ∷ 2 ∷ 4 ∷ 5 ∷ 6 ∷ 7 ∷ 8 ∷ []
 
-rest : Each valueOf (whole (pos 0)) others
+rest : Each valueOf (Value.Whole (pos 0)) others
 rest = (
   λ k. refl,
   λ y k. refl,
@@ -34,7 +34,7 @@ returns : tie.Need-returns
 returns c = search needs
 
 returns-2 : tie.Need-returns-2
-returns-2 c = by-tag valueOf (whole (pos 0)) others rest (c .before .args .x) (c .match .keys2)
+returns-2 c = by-tag valueOf (Value.Whole (pos 0)) others rest (c .before .args .x) (c .match .keys2)
 
 pub value-of-spec : {M : Type 1} → statement M
 value-of-spec = tie.close (tie.spec enum-known-x returns returns-2)
