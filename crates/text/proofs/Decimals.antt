@@ -2,9 +2,9 @@
 -- nothing.
 use borrow.Author.Tests.{le-leb, le-ltb, leb-true, lt-ltb, ltb-false, ltb-true}
 use lib.Dec.{leb, ltb}
-use lib.ListN.{drop, drop-of-length-le, getD, length, length-append, length-drop}
+use lib.ListN.{drop, drop-of-length-le, getD, length, length-append, length-drop, length-replicate}
 use lib.ListN.{length-set, replicate, set, take, take-append-drop}
-use lib.Seq.{drop-append-seam, drop-cons, drop-set-lt, getD-set-same, take-set-le, take-take}
+use lib.Seq.{drop-append-seam, drop-cons, drop-set-lt, getD-set-same, take-all, take-set-le, take-take}
 use mathlib.Core.Bool.{Bool, _&&_, cond, false, true}
 use mathlib.Core.List.{List, [], _∷_, _++_, append-assoc, append-nil}
 use mathlib.Core.Path.{_≡_, _∙_, ap, ap₂, refl, sym}
@@ -166,18 +166,28 @@ module _ {bytes : List ℕ} {from rest n : ℕ} (w : Laid bytes from rest n) whe
         (ap {B = Decimal} (λ (l : List ℕ). record { bytes = l; from = from - 1 })
         (sym (take-append-drop (from - 1) (now v)) ∙ ap₂ _++_ (put-clear v) all))
 
--- what is laid has room for the digits alone
-pub laid-from : (n : ℕ) → decimalOf n .from ≤ 20
-unfolding decimalOf
-laid-from n = omega arith
+-- d holds the digits of n as its last bytes
+pub record Holds (d : Decimal) (n : ℕ) : Type 0 where
+  pub wide : length (d .bytes) ≡ 20
+  pub within : d .from ≤ 20
+  pub part : take (20 - d .from) (drop (d .from) (d .bytes)) ≡ decimal n
 
-pub laid-digits : (n : ℕ) → drop (decimalOf n .from) (decimalOf n .bytes) ≡ decimal n
+behind : (k : ℕ) (l : List ℕ) → drop k (replicate k 0 ++ l) ≡ l
+behind zero l = refl
+behind (suc k) l = behind k l
+
+pub holds : (n : ℕ) → n < 2 ^ 64 → {d : Decimal} → d ≡ decimalOf n → Holds d n
 unfolding decimalOf
-laid-digits n = behind (20 - length (decimal n)) (decimal n)
-  where
-    behind : (k : ℕ) (l : List ℕ) → drop k (replicate k 0 ++ l) ≡ l
-    behind zero l = refl
-    behind (suc k) l = behind k l
+holds n h e =
+    let k = 20 - length (decimal n) in
+    let few = few-digits n h in
+    let zeros : List ℕ = replicate k 0 in
+    rw e
+    (record {
+      wide = length-append zeros (decimal n) ∙ omega (arith, few, length-replicate {A = ℕ} k 0);
+      within = omega arith;
+      part = rw (behind k (decimal n)) (take-all (20 - k) (decimal n) (omega (arith, few)));
+    })
 
 -- ---- digits in front
 

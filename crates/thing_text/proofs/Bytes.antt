@@ -1,18 +1,25 @@
 -- Bytes behind bytes.
-use Prim.Native.Nat.{ℕ, zero, suc, _+_, _/_, _%_, _≤_, _<_}
-use mathlib.Core.Path.{_≡_, refl, sym, ap, subst, _∙_}
-use mathlib.Core.List.{List, [], _∷_, _++_, append-assoc, append-nil}
-use native.Mathlib.Omega.{arith}
-use native.Mathlib.Numerals.{add-one}
-use lib.ListN.{length, length-append, length-take, getD, set, take}
 use borrow.Author.Tests.{lt-ltb, le-ltb}
+use lib.ListN.{length, length-append, length-take, getD, set, take}
 use lib.Seq.{take-suc-set, take-all, length-take-le}
+use mathlib.Core.List.{List, [], _∷_, _++_, append-assoc, append-nil}
+use mathlib.Core.Path.{_≡_, refl, sym, ap, subst, _∙_}
 use native.Mathlib.Nat.{not-suc-le-zero, le-of-suc-le-suc}
+use native.Mathlib.Numerals.{add-one}
+use native.Mathlib.Omega.{arith}
+use Prim.Native.Nat.{ℕ, zero, suc, _+_, _/_, _%_, _≤_, _<_}
+use Rattle.text.proofs.Put.{fitting}
 use Rattle.text.specs.Hex.{hex4}
 use Rattle.text.specs.Put.{putIn, put, room}
-use Rattle.text.proofs.Put.{fitting}
-use Rattle.thing_text.specs.Thing.{hex16, refused, accepted, leaves, write}
 use Rattle.thing_text.specs.Code.{Words, wordsOf, Adds, Reads}
+use Rattle.thing_text.specs.Thing.{hex16, refused, accepted, leaves, write}
+
+-- what was found is b: then the text of b is the text of a
+pub reads-as : {A : Type 0} (text : A → List ℕ) {a b : A} {w : Words} → a ≡ b → Reads (text b) w → Reads (text a) w
+reads-as {A} text {w = w} e h = subst (λ (x : A). Reads (text x) w) (sym e) h
+
+pub adds-as : {A : Type 0} (text : A → List ℕ) {a b : A} {u w : Words} → a ≡ b → Adds u (text b) w → Adds u (text a) w
+adds-as {A} text {u = u} {w = w} e h = subst (λ (x : A). Adds u (text x) w) (sym e) h
 
 pub adds-byte : (l : List ℕ) (n b : ℕ) → n < length l → take (n + 1) (set l n b) ≡ take n l ++ b ∷ []
 adds-byte l n b h = rw add-one (take-suc-set l n b h)
@@ -46,7 +53,7 @@ take-more s i h = rw add-one (go s i h)
 pub adds-next : {u v w : Words} (s : List ℕ) (i : ℕ) → i < length s → Adds u (take i s) v
     → Adds v (getD s i 0 ∷ []) w
     → Adds u (take (i + 1) s) w
-adds-next {u} {v} {w} s i h e f = subst (λ (vs : List ℕ). Adds u vs w) (sym (take-more s i h)) (adds-more e f)
+adds-next s i h e f = adds-as (λ (vs : List ℕ). vs) (take-more s i h) (adds-more e f)
 
 pub adds-room : {u v : Words} (s : List ℕ) (i : ℕ) → i < length s → u .count + length s ≤ 64
     → Adds u (take i s) v

@@ -1,6 +1,5 @@
-pub mod Signs
-pub mod Floats
-pub mod Numbers
 pub mod Bytes
+pub mod Numbers
 pub mod ReadBack
+pub mod Signs
 pub mod Tight

@@ -1,42 +1,39 @@
 -- The text tells the thing.
-use Prim.Native.Nat.{ℕ, suc, _+_, _-_, _/_, _%_, _<_}
-use mathlib.Core.Path.{_≡_, refl, sym, ap, _∙_}
+use borrow.Author.Tests.{ltb-true, ltb-false, ne-eqb}
+use lib.Dec.{eqb, ltb, T}
+use lib.Ieee.Bits.{ofBits-toBits, toBits-lt}
+use lib.Ieee.{Float, binary64, fits, ofBits, toBits}
+use lib.IntN.{ℤ, pos, negsuc}
+use lib.ListN.{length, take, drop}
 use mathlib.Core.Bool.{Bool, true, false, cond}
 use mathlib.Core.List.{List, [], _∷_, _++_, append-assoc}
+use mathlib.Core.Path.{_≡_, refl, sym, ap, ap₂, _∙_}
 use native.Mathlib.Nat.{mod-lt}
 use native.Mathlib.Omega.{arith}
-use lib.Dec.{eqb, ltb, T}
-use lib.IntN.{ℤ, pos, negsuc}
-use lib.Ieee.{Float, binary64, fits, ofBits, toBits}
-use lib.Ieee.Bits.{ofBits-toBits, toBits-lt}
-use lib.ListN.{length, take, drop}
-use borrow.Author.Tests.{ltb-true, ltb-false, ne-eqb}
-use Rattle.text.specs.Bytes.{digit}
-use Rattle.text.specs.Hex.{digitOf, hex4}
-use Rattle.text.specs.Put.{put}
-use Rattle.text.proofs.Put.{front}
-use Rattle.table.specs.declared.Text.{Text}
-use Rattle.value.specs.declared.Value.{Value}
-use Rattle.value.specs.declared.Value.the-variants.{Whole as whole, Real as real}
-use Rattle.state.specs.declared.LoopSort.the-variants.{Loop as aLoop, Sweep as aSweep}
+use Prim.Native.Nat.{ℕ, suc, _+_, _-_, _/_, _%_, _<_}
+use Rattle.state.specs.declared.LoopSort.the-variants as LoopSort
 use Rattle.state.specs.State.{Out, nought, enters, leaves as leavesLoop, packStart, packEnd, packPart, says, waits}
 use Rattle.state.specs.State.{setsE, setsMode, switchesCell}
-use Rattle.thing_text.specs.Thing.{decimal, wholeText, hex16, valueText}
-use Rattle.thing_text.specs.Thing.{amountText, textOf, refused, accepted, Written, leaves, write}
-use Rattle.thing_text.specs.Read.{Front, numberFrom, readDecimal, minus, bySign, readWhole, readHex4, readHex16}
+use Rattle.text.proofs.Decimals.{alone-back, alone-rest, decimal-back, decimal-rest}
+use Rattle.text.proofs.Put.{front}
+use Rattle.text.specs.Decimal.{decimal, number}
+use Rattle.text.specs.Hex.{digitOf, hex4}
+use Rattle.text.specs.Put.{put}
+use Rattle.thing_text.proofs.Numbers.{four-read, sixteen-read}
+use Rattle.thing_text.specs.Read.{minus, bySign, readWhole, readHex4, readHex16}
 use Rattle.thing_text.specs.Read.{readValue, readAmount, partOf, rangeOf}
 use Rattle.thing_text.specs.Read.{readThing, SoundValue, Sound, ReadsBack}
-use Rattle.thing_text.proofs.Numbers.{decimal-read, decimal-alone, four-read, sixteen-read}
+use Rattle.thing_text.specs.Thing.{amountText, textOf, refused, accepted, Written, leaves, write}
+use Rattle.thing_text.specs.Thing.{wholeText, hex16, valueText}
+use Rattle.value.specs.declared.Value.the-variants as Value
+use Rattle.value.specs.declared.Value.{Value}
 
 -- ---- numbers
 
-number-back : (n : ℕ) → readDecimal (decimal n) ≡ n
-number-back n = ap (λ (f : Front). f .value) (decimal-alone n)
-
 whole-back : (z : ℤ) → readWhole (wholeText z) ≡ z
-unfolding wholeText digit
-whole-back (pos n) = ap (λ (f : Front). bySign (f .value) (f .rest)) (decimal-alone n)
-whole-back (negsuc n) = ap minus (number-back (suc n))
+unfolding wholeText
+whole-back (pos n) = ap₂ bySign (alone-back n) (alone-rest n)
+whole-back (negsuc n) = ap minus (alone-back (suc n))
 
 bits-back : (x : Float) → T (fits binary64 x) → readHex16 (hex16 (toBits binary64 x)) ≡ toBits binary64 x
 bits-back x h =
@@ -48,8 +45,8 @@ float-back x h = ap (λ (n : ℕ). ofBits binary64 n) (bits-back x h) ∙ ofBits
 
 value-back : (v : Value) → SoundValue v → readValue (valueText v) ≡ v
 unfolding valueText
-value-back (whole n) h = ap whole (whole-back n)
-value-back (real x) h = ap real (float-back x h)
+value-back (Value.Whole n) h = ap Value.Whole (whole-back n)
+value-back (Value.Real x) h = ap Value.Real (float-back x h)
 
 -- ---- a float without its letter
 
@@ -62,10 +59,10 @@ no-letter k h = go (ltb k 10) refl
     go false e = ne-eqb (65 + (k - 10)) 105 (λ q. omega (arith, ltb-false k 10 e))
 
 read-float : (c : ℕ) (s : List ℕ) → eqb c 105 ≡ false
-    → readAmount (c ∷ s) ≡ real (ofBits binary64 (readHex16 (c ∷ s)))
+    → readAmount (c ∷ s) ≡ Value.Real (ofBits binary64 (readHex16 (c ∷ s)))
 read-float c s e = rw e
 
-amount-float : (n : ℕ) → readAmount (hex16 n) ≡ real (ofBits binary64 (readHex16 (hex16 n)))
+amount-float : (n : ℕ) → readAmount (hex16 n) ≡ Value.Real (ofBits binary64 (readHex16 (hex16 n)))
 unfolding hex16 hex4
 amount-float n =
     let k = n / 65536 / 65536 / 65536 % 65536 / 16 / 16 / 16 % 16 in
@@ -74,8 +71,8 @@ amount-float n =
 
 amount-back : (v : Value) → SoundValue v → readAmount (amountText v) ≡ v
 unfolding amountText
-amount-back (whole n) h = ap whole (whole-back n)
-amount-back (real x) h = amount-float (toBits binary64 x) ∙ ap real (float-back x h)
+amount-back (Value.Whole n) h = ap Value.Whole (whole-back n)
+amount-back (Value.Real x) h = amount-float (toBits binary64 x) ∙ ap Value.Real (float-back x h)
 
 -- ---- things
 
@@ -91,25 +88,26 @@ abbrev ranged : ℕ → ℕ → Out
 ranged a b = says (record { start = a; end = b })
 
 range-back : (a b : ℕ) → rangeOf (decimal a ++ (58 ∷ []) ++ decimal b) ≡ ranged a b
-unfolding digit
 range-back a b =
+    let behind : List ℕ = 58 ∷ decimal b in
     ap (λ (s : List ℕ). rangeOf s) (append-assoc (decimal a) (58 ∷ []) (decimal b))
-    ∙ ap (λ (f : Front). ranged (f .value) (readDecimal (drop 1 (f .rest)))) (decimal-read a (58 ∷ decimal b))
-    ∙ ap (λ (n : ℕ). ranged a n) (number-back b)
+    ∙ ap₂ (λ (n : ℕ) (s : List ℕ). ranged n (number (drop 1 s))) (decimal-back a behind refl)
+    (decimal-rest a behind refl)
+    ∙ ap (λ (n : ℕ). ranged a n) (alone-back b)
 
 pub reads-back : ReadsBack
 reads-back nought h = refl
-reads-back (enters aLoop) h = refl
-reads-back (enters aSweep) h = refl
-reads-back (leavesLoop aLoop) h = refl
-reads-back (leavesLoop aSweep) h = refl
+reads-back (enters LoopSort.Loop) h = refl
+reads-back (enters LoopSort.Sweep) h = refl
+reads-back (leavesLoop LoopSort.Loop) h = refl
+reads-back (leavesLoop LoopSort.Sweep) h = refl
 reads-back packStart h = refl
 reads-back packEnd h = refl
 reads-back (packPart v t) h = part-back v t (h .0) (h .1)
 reads-back (says t) h = range-back (t .start) (t .end)
 reads-back (waits v) h = ap waits (amount-back v h)
 reads-back (setsE v) h = ap setsE (amount-back v h)
-reads-back (setsMode n) h = ap setsMode (number-back n)
+reads-back (setsMode n) h = ap setsMode (alone-back n)
 reads-back (switchesCell true) h = refl
 reads-back (switchesCell false) h = refl
 

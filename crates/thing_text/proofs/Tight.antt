@@ -1,21 +1,23 @@
 -- No second answer fits a public function's contract.
-use Prim.Native.Nat.{ℕ}
-use mathlib.Core.Path.{_≡_, refl, sym, ap, _∙_}
 use mathlib.Core.List.{List}
+use mathlib.Core.Path.{_≡_, refl, sym, ap, _∙_}
+use Prim.Native.Nat.{ℕ}
 use Rattle.state.specs.declared.Thing.{Thing}
 use Rattle.state.specs.Meaning.{outOf}
+use Rattle.thing_text.specs.Answer.{numberOf, meaning, leavesBy}
+use Rattle.thing_text.specs.declared.Put.the-variants as Put
+use Rattle.thing_text.specs.declared.Put.{Put}
 use Rattle.thing_text.specs.Thing.{textOf, Answer, refused, accepted, leaves, write}
-use Rattle.thing_text.specs.Answer.{Put, written, short, numberOf, meaning, leavesBy}
 
 -- what an answer says tells the answer
 putOf : Answer → Put
-putOf (accepted n) = written n
-putOf (refused number place) = short
+putOf (accepted n) = Put.Written n
+putOf (refused number place) = Put.Short
 
 put-back : (x : Put) → putOf (meaning x) ≡ x
 unfolding putOf
-put-back (written n) = refl
-put-back short = refl
+put-back (Put.Written n) = refl
+put-back Put.Short = refl
 
 pub only-number : (x : Put) (r r′ : ℕ) → r ≡ numberOf x → r′ ≡ numberOf x → r ≡ r′
 only-number x r r′ p q = p ∙ sym q

@@ -1,38 +1,29 @@
 -- The text tells the thing: a reader of the texts, which gives each thing back (proofs/ReadBack.antt). Assumes nothing.
-use Prim.Native.Nat.{ℕ, zero, suc, _+_, _-_, _*_, _<_}
-use mathlib.Core.Path.{_≡_}
-use mathlib.Core.Bool.{Bool, true, false, cond}
-use mathlib.Core.List.{List, [], _∷_}
 use lib.Dec.{eqb, T}
-use lib.IntN.{ℤ, pos, negsuc}
 use lib.Ieee.{binary64, fits, ofBits}
+use lib.IntN.{ℤ, pos, negsuc}
 use lib.ListN.{take, drop}
-use Rattle.text.specs.declared.Hex.{Hex}
-use Rattle.text.specs.declared.Hex.the-variants.{Number as number, Bad as bad}
-use Rattle.text.specs.Bytes.{ascii, digit}
-use Rattle.text.specs.Hex.{hexFrom}
-use Rattle.value.specs.declared.Value.{Value}
-use Rattle.value.specs.declared.Value.the-variants.{Whole as whole, Real as real}
-use Rattle.state.specs.declared.LoopSort.the-variants.{Loop as aLoop, Sweep as aSweep}
+use mathlib.Core.Bool.{true, false, cond}
+use mathlib.Core.List.{List, [], _∷_}
+use mathlib.Core.Path.{_≡_}
+use Prim.Native.Nat.{ℕ, zero, suc, _+_, _*_, _<_}
+use Rattle.state.specs.declared.LoopSort.the-variants as LoopSort
 use Rattle.state.specs.State.{Out, nought, enters, leaves, packStart, packEnd, packPart, says, waits, setsE, setsMode}
 use Rattle.state.specs.State.{switchesCell}
+use Rattle.text.specs.Bytes.{ascii}
+use Rattle.text.specs.Decimal.{digitRun, number}
+use Rattle.text.specs.declared.Hex.the-variants as Hex
+use Rattle.text.specs.declared.Hex.{Hex}
+use Rattle.text.specs.Hex.{hexFrom}
 use Rattle.thing_text.specs.Thing.{textOf}
+use Rattle.value.specs.declared.Value.the-variants as Value
+use Rattle.value.specs.declared.Value.{Value}
 
 -- ---- numbers
 
--- the number of the digits in front, and what stands behind them
-pub record Front : Type 0 where
-  pub value : ℕ
-  pub rest : List ℕ
-
-abbrev pub numberFrom : ℕ → List ℕ → Front
-numberFrom v [] = record { value = v; rest = [] }
-numberFrom v (c ∷ s) =
-    let more = numberFrom (v * 10 + (c - 48)) s in
-    cond (digit c) more (record { value = v; rest = c ∷ s })
-
-abbrev pub readDecimal : List ℕ → ℕ
-readDecimal s = (numberFrom 0 s) .value
+-- what stands behind the digits in front
+abbrev pub behindNumber : List ℕ → List ℕ
+behindNumber s = drop (digitRun s) s
 
 abbrev pub minus : ℕ → ℤ
 minus zero = pos 0
@@ -41,14 +32,14 @@ minus (suc n) = negsuc n
 -- no digit stands in front of a minus
 abbrev pub bySign : ℕ → List ℕ → ℤ
 bySign v [] = pos v
-bySign v (c ∷ s) = minus (readDecimal s)
+bySign v (c ∷ s) = minus (number s)
 
 abbrev pub readWhole : List ℕ → ℤ
-readWhole s = bySign ((numberFrom 0 s) .value) ((numberFrom 0 s) .rest)
+readWhole s = bySign (number s) (behindNumber s)
 
 abbrev pub hexValue : Hex → ℕ
-hexValue (number v) = v
-hexValue bad = 0
+hexValue (Hex.Number v) = v
+hexValue Hex.Bad = 0
 
 abbrev pub readHex4 : List ℕ → ℕ
 readHex4 s = hexValue (hexFrom 0 (take 4 s))
@@ -58,13 +49,13 @@ readHex16 s = ((readHex4 s * 65536 + readHex4 (drop 4 s)) * 65536 + readHex4 (dr
 
 -- behind `i` a whole number, behind `f` a float
 abbrev pub readValue : List ℕ → Value
-readValue [] = whole (pos 0)
-readValue (c ∷ s) = cond (eqb c 105) (whole (readWhole s)) (real (ofBits binary64 (readHex16 s)))
+readValue [] = Value.Whole (pos 0)
+readValue (c ∷ s) = cond (eqb c 105) (Value.Whole (readWhole s)) (Value.Real (ofBits binary64 (readHex16 s)))
 
 -- without `i` a float
 abbrev pub readAmount : List ℕ → Value
-readAmount [] = whole (pos 0)
-readAmount (c ∷ s) = cond (eqb c 105) (whole (readWhole s)) (real (ofBits binary64 (readHex16 (c ∷ s))))
+readAmount [] = Value.Whole (pos 0)
+readAmount (c ∷ s) = cond (eqb c 105) (Value.Whole (readWhole s)) (Value.Real (ofBits binary64 (readHex16 (c ∷ s))))
 
 -- ---- things
 
@@ -78,21 +69,21 @@ abbrev pub partOf : List ℕ → Out
 partOf s = packPart (readValue (drop 5 s)) (readHex4 s)
 
 abbrev pub rangeOf : List ℕ → Out
-rangeOf s = says (record { start = (numberFrom 0 s) .value; end = readDecimal (drop 1 ((numberFrom 0 s) .rest)) })
+rangeOf s = says (record { start = number s; end = number (drop 1 (behindNumber s)) })
 
 abbrev pub readThing : List ℕ → Out
 readThing s =
-    behind (ascii "M0000") s (λ r. enters aSweep)
-    (behind (ascii "L") s (λ r. enters aLoop)
-    (behind (ascii "*") s (λ r. leaves aSweep)
-    (behind (ascii "+") s (λ r. leaves aLoop)
+    behind (ascii "M0000") s (λ r. enters LoopSort.Sweep)
+    (behind (ascii "L") s (λ r. enters LoopSort.Loop)
+    (behind (ascii "*") s (λ r. leaves LoopSort.Sweep)
+    (behind (ascii "+") s (λ r. leaves LoopSort.Loop)
     (behind (ascii "start") s (λ r. packStart)
     (behind (ascii "part:") s partOf
     (behind (ascii "end") s (λ r. packEnd)
     (behind (ascii "text:") s rangeOf
     (behind (ascii "wait:") s (λ r. waits (readAmount r))
     (behind (ascii "set_e:") s (λ r. setsE (readAmount r))
-    (behind (ascii "set_pgstat_mode:") s (λ r. setsMode (readDecimal r))
+    (behind (ascii "set_pgstat_mode:") s (λ r. setsMode (number r))
     (behind (ascii "cell_on") s (λ r. switchesCell true)
     (behind (ascii "cell_off") s (λ r. switchesCell false) nought))))))))))))
 
@@ -100,8 +91,8 @@ readThing s =
 
 -- a float of 64 bits, and a type of 16: those of the code are
 abbrev pub SoundValue : Value → Type 0
-SoundValue (whole n) = Unit {0}
-SoundValue (real x) = T (fits binary64 x)
+SoundValue (Value.Whole n) = Unit {0}
+SoundValue (Value.Real x) = T (fits binary64 x)
 
 abbrev pub Sound : Out → Type 0
 Sound nought = Unit {0}

@@ -1,33 +1,25 @@
 -- The text of each thing that a step hands out (01, The machine): `M0000` or `L` when a loop is entered, `*` or `+`
 -- when it is left, a package's start, part or end, a text, an order, or nothing. What a thing carries stands behind its
 -- word, each part behind a colon. Assumes nothing.
-use Prim.Native.Nat.{ℕ, zero, suc, _+_, _/_, _%_}
-use mathlib.Core.Bool.{Bool, true, false, cond}
-use mathlib.Core.List.{List, [], _∷_, _++_}
 use lib.Dec.{ltb}
-use lib.IntN.{ℤ, pos, negsuc, natAbs}
 use lib.Ieee.{Float, binary64, toBits}
+use lib.IntN.{ℤ, pos, negsuc, natAbs}
 use lib.ListN.{length}
-use Rattle.text.specs.Bytes.{ascii}
-use Rattle.text.specs.Hex.{hex4}
-use Rattle.text.specs.Put.{put}
-use Rattle.value.specs.declared.Value.{Value}
-use Rattle.value.specs.declared.Value.the-variants.{Whole as whole, Real as real}
+use mathlib.Core.Bool.{Bool, true, false, cond}
+use mathlib.Core.List.{List, [], _++_}
+use Prim.Native.Nat.{ℕ, _/_, _%_}
+use Rattle.state.specs.declared.LoopSort.the-variants as LoopSort
 use Rattle.state.specs.declared.LoopSort.{LoopSort}
-use Rattle.state.specs.declared.LoopSort.the-variants.{Loop as aLoop, Sweep as aSweep}
 use Rattle.state.specs.State.{Out, nought, enters, leaves as leavesLoop, packStart, packEnd, packPart, says, waits}
 use Rattle.state.specs.State.{setsE, setsMode, switchesCell}
+use Rattle.text.specs.Bytes.{ascii}
+use Rattle.text.specs.Decimal.{decimal}
+use Rattle.text.specs.Hex.{hex4}
+use Rattle.text.specs.Put.{put}
+use Rattle.value.specs.declared.Value.the-variants as Value
+use Rattle.value.specs.declared.Value.{Value}
 
 -- ---- numbers
-
--- in decimal, with so many digits at the most: below ten one digit; otherwise those of the tenth, and the last
-unfoldable pub digits : ℕ → ℕ → List ℕ
-digits zero n = []
-digits (suc most) n = cond (ltb n 10) ((48 + n) ∷ []) (digits most (n / 10) ++ ((48 + n % 10) ∷ []))
-
--- a number has no more digits than it has units, and 0 has one
-unfoldable pub decimal : ℕ → List ℕ
-decimal n = digits (suc n) n
 
 abbrev pub signText : ℤ → List ℕ
 signText (pos n) = []
@@ -46,23 +38,23 @@ hex16 n =
 
 -- `i` and a whole number, or `f` and the bits of a float
 unfoldable pub valueText : Value → List ℕ
-valueText (whole n) = ascii "i" ++ wholeText n
-valueText (real x) = ascii "f" ++ hex16 (toBits binary64 x)
+valueText (Value.Whole n) = ascii "i" ++ wholeText n
+valueText (Value.Real x) = ascii "f" ++ hex16 (toBits binary64 x)
 
 -- what an order carries is a float, whose letter is left out
 unfoldable pub amountText : Value → List ℕ
-amountText (whole n) = ascii "i" ++ wholeText n
-amountText (real x) = hex16 (toBits binary64 x)
+amountText (Value.Whole n) = ascii "i" ++ wholeText n
+amountText (Value.Real x) = hex16 (toBits binary64 x)
 
 -- ---- things
 
 abbrev pub enterText : LoopSort → List ℕ
-enterText aSweep = ascii "M0000"
-enterText aLoop = ascii "L"
+enterText LoopSort.Sweep = ascii "M0000"
+enterText LoopSort.Loop = ascii "L"
 
 abbrev pub leaveText : LoopSort → List ℕ
-leaveText aSweep = ascii "*"
-leaveText aLoop = ascii "+"
+leaveText LoopSort.Sweep = ascii "*"
+leaveText LoopSort.Loop = ascii "+"
 
 abbrev pub cellText : Bool → List ℕ
 cellText true = ascii "cell_on"

@@ -7,30 +7,22 @@ use table::Text;
 use value::Value;
 ghost use mathlib.Core.Path.{_≡_};
 ghost use mathlib.Core.List.{[], _∷_, _++_};
-ghost use Prim.Native.Nat.{_+_, _/_, _%_, _≤_, _<_};
+ghost use Prim.Native.Nat.{_+_, _%_, _≤_, _<_};
 ghost use lib.IntN.{natAbs};
 ghost use lib.Ieee.{binary64, toBits};
-ghost use lib.ListN.{length, drop};
+ghost use lib.ListN.{length};
+ghost use Rattle.text.specs.Decimal.{decimal};
 ghost use Rattle.text.specs.Hex.{hex4};
-ghost use Rattle.value.specs.Arithmetic.{rest};
 ghost use Rattle.state.specs.State.{packPart, says};
 ghost use Rattle.state.specs.Meaning.{outOf, orderOf};
-ghost use Rattle.thing_text.specs.Thing.{decimal, hex16, signText, wholeText, valueText, amountText};
+ghost use Rattle.thing_text.specs.Thing.{hex16, signText, wholeText, valueText, amountText};
 ghost use Rattle.thing_text.specs.Thing.{enterText, leaveText, textOf, write};
 ghost use Rattle.thing_text.specs.Answer.{numberOf, leavesBy};
 ghost use Rattle.thing_text.specs.Code.{wordsOf, Adds, Reads};
 
-// As many digits as a number of 64 bits has.
-const DIGITS: usize = 20;
-
-const TEN: u64 = 10;
-
 const SIXTEEN_BITS: u64 = 65536;
 
 const WORD: u64 = 4294967296;
-
-// The bits of a float that is not a number: all of them are one.
-const NAN: u64 = 9221120237041090560;
 
 // The bytes of a text so far, the first ones of these.
 struct Words {
@@ -120,68 +112,21 @@ fn add_hex16(w: Words, n: u64) -> Words
     add_hex4(t, low_bits(n))
 }
 
-// The digit of a number below ten.
-fn digit_of(n: u64) -> u8
-    requires { ⌜ n < 10 ⌝ }
-    ensures { λ r. ⌜ r ≡ 48 + n ⌝ }
-{
-    b'0' + n as u8
-}
-
-// The digits of a number, laid from the end.
-struct Digits {
-    at: [u8; 20],
-    from: usize,
-}
-
-fn digits_of(n: u64) -> Digits
-    ensures { λ r. ⌜ (drop (r .from) (r .at) ≡ decimal n) × (r .from ≤ 20) × (length (r .at) ≡ 20) ⌝ }
-{
-    let mut at = [0u8; 20];
-    let mut from = DIGITS;
-    let mut rest = n;
-    while TEN <= rest {
-        from -= 1;
-        at[from] = digit_of(rest % TEN);
-        rest = rest / TEN;
-    }
-    from -= 1;
-    at[from] = digit_of(rest);
-    Digits { at: at, from: from }
-}
-
 fn add_decimal(w: Words, n: u64) -> Words
     requires { ⌜ w .count + 20 ≤ 64 ⌝ }
     ensures { λ r. ⌜ Adds w (decimal n) r × (r .count ≤ w .count + 20) ⌝ }
 {
-    let digits = digits_of(n);
-    let at = digits.at;
+    let digits = text::decimal_of(n);
+    let bytes = digits.bytes;
     let from = digits.from;
-    add_word(w, &at[from..])
-}
-
-fn wide(n: i32) -> i64
-    ensures { λ r. ⌜ r ≡ n ⌝ }
-{
-    n as i64
-}
-
-// The two's-complement word of a number.
-fn word_of(n: i32) -> u32
-    ensures { λ r. ⌜ r ≡ rest n 4294967296 ⌝ }
-{
-    if n < 0 {
-        let w = wide(n);
-        return (w + 4294967296) as u32;
-    }
-    n as u32
+    add_word(w, &bytes[from..])
 }
 
 // The number without its sign.
 fn size_of(n: i32) -> u64
     ensures { λ r. ⌜ r ≡ natAbs n ⌝ }
 {
-    let word = word_of(n);
+    let word = value::word_of(n);
     if n < 0 {
         return WORD - word as u64;
     }
@@ -206,17 +151,11 @@ fn add_whole(w: Words, n: i32) -> Words
     add_decimal(t, size_of(n))
 }
 
-fn bits_of(x: f64) -> u64
-    ensures { λ r. ⌜ r ≡ toBits binary64 x ⌝ }
-{
-    if x != x { NAN } else { f64::to_bits(x) }
-}
-
 fn add_float(w: Words, x: f64) -> Words
     requires { ⌜ w .count + 16 ≤ 64 ⌝ }
     ensures { λ r. ⌜ Adds w (hex16 (toBits binary64 x)) r ⌝ }
 {
-    add_hex16(w, bits_of(x))
+    add_hex16(w, value::bits_of(x))
 }
 
 // ---- values

@@ -1,8 +1,9 @@
-use mathlib.Core.Path.{refl}
+-- `thing_text::add_byte`: one byte behind the others. Assumes nothing.
 use borrow.Author.Needs.{needs}
-use Rattle.thing_text.proofs.Bytes.{adds-byte}
+use mathlib.Core.Path.{refl}
 use Rattle.thing_text.proofs.add_byte.Statement.{statement}
 use Rattle.thing_text.proofs.add_byte.Tie as tie
+use Rattle.thing_text.proofs.Bytes.{adds-byte}
 
 element-write-t : tie.Need-element-write-t
 element-write-t c = search needs

@@ -1,11 +1,11 @@
-use Prim.Native.Nat.{ℕ}
-use mathlib.Core.List.{List}
-use mathlib.Core.Path.{subst, _∙_}
-use Rattle.thing_text.specs.Code.{Adds}
-use Rattle.thing_text.proofs.Bytes.{four-put}
+-- `thing_text::add_hex4`: the four digits that the text's writer gives. Assumes nothing.
 use borrow.Author.Needs.{needs}
+use mathlib.Core.List.{List}
+use mathlib.Core.Path.{sym, _∙_}
+use Prim.Native.Nat.{ℕ}
 use Rattle.thing_text.proofs.add_hex4.Statement.{statement}
 use Rattle.thing_text.proofs.add_hex4.Tie as tie
+use Rattle.thing_text.proofs.Bytes.{adds-as, four-put}
 
 slice-aggregate-put-hex4 : tie.Need-slice-aggregate-put-hex4
 slice-aggregate-put-hex4 c = search needs
@@ -21,16 +21,12 @@ add-word-requires c κs = search needs
 
 returns : tie.Need-returns
 returns c =
-    let a = c .before .before .before .before .before .args in
-    subst (λ (vs : List ℕ). Adds (a .w) vs (c .add-word .result))
-    (c .before .before .before .put-hex4 .ensures ∙ four-put (a .n)) (c .add-word .ensures)
+    let d = c .before .before .before in
+    adds-as (λ (vs : List ℕ). vs) (sym (d .put-hex4 .ensures ∙ four-put (d .before .before .args .n)))
+    (c .add-word .ensures)
 
 pub add-hex4-spec : {M : Type 1} → statement M
 add-hex4-spec =
     tie.close
     (tie.spec
-    slice-aggregate-put-hex4
-    put-hex4-requires
-    slice-aggregate-add-word
-    add-word-requires
-    returns)
+    slice-aggregate-put-hex4 put-hex4-requires slice-aggregate-add-word add-word-requires returns)

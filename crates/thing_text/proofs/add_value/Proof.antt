@@ -1,13 +1,11 @@
-use lib.IntN.{ℤ}
-use Rattle.value.proofs.Wrap.{back32}
-use mathlib.Core.Path.{sym, subst}
-use Rattle.value.specs.declared.Value.{Value}
-use Rattle.thing_text.specs.Code.{Adds}
-use Rattle.thing_text.proofs.Bytes.{adds-more}
-use Rattle.thing_text.specs.Thing.{wholeText, valueText}
+-- `thing_text::add_value`: a letter, and the number behind it. Assumes nothing.
 use borrow.Author.Needs.{needs}
+use mathlib.Core.Path.{sym}
 use Rattle.thing_text.proofs.add_value.Statement.{statement}
 use Rattle.thing_text.proofs.add_value.Tie as tie
+use Rattle.thing_text.proofs.Bytes.{adds-as, adds-more}
+use Rattle.thing_text.specs.Thing.{valueText, wholeText}
+use Rattle.value.proofs.Wrap.{back32}
 
 enum-known-v : tie.Need-enum-known-v
 enum-known-v c = search needs
@@ -30,28 +28,20 @@ add-float-requires c κs = search needs
 returns : tie.Need-returns
 unfolding valueText
 returns c =
-    subst
-    (λ (v : Value). Adds (c .before .before .before .before .before .args .w) (valueText v) (c .add-whole .result))
-    (sym (c .before .before .before .v .given .1)) (adds-more (c .before .add-byte .ensures)
-    (subst (λ (n : ℤ). Adds (c .before .add-byte .result) (wholeText n) (c .add-whole .result))
-    (back32 _ (c .before .before .known-told .given .0 .1)) (c .add-whole .ensures)))
+    let d = c .before .before in
+    adds-as valueText (d .before .v .given .1)
+    (adds-more (c .before .add-byte .ensures)
+    (adds-as wholeText (sym (back32 _ (d .known-told .given .0 .1))) (c .add-whole .ensures)))
 
 returns-2 : tie.Need-returns-2
 unfolding valueText
 returns-2 c =
-    subst
-    (λ (v : Value). Adds (c .before .before .before .before .before .args .w) (valueText v) (c .add-float .result))
-    (sym (c .before .before .before .v2 .given .1)) (adds-more (c .before .add-byte2 .ensures) (c .add-float .ensures))
+    adds-as valueText (c .before .before .before .v2 .given .1)
+    (adds-more (c .before .add-byte2 .ensures) (c .add-float .ensures))
 
 pub add-value-spec : {M : Type 1} → statement M
 add-value-spec =
     tie.close
     (tie.spec
-    enum-known-v
-    add-byte-requires
-    add-whole-requires
-    enum-known-v-2
-    add-byte-requires-2
-    add-float-requires
-    returns
-    returns-2)
+    enum-known-v add-byte-requires add-whole-requires enum-known-v-2 add-byte-requires-2 add-float-requires
+    returns returns-2)

@@ -1,48 +1,19 @@
-use mathlib.Core.Path.{sym, subst}
-use Rattle.state.specs.declared.LoopSort.{LoopSort}
-use Rattle.thing_text.specs.Thing.{enterText}
-use Rattle.thing_text.specs.Code.{Reads}
+-- `thing_text::enter_words`: the mark of a loop that is entered. Assumes nothing.
 use borrow.Author.Needs.{needs}
+use Rattle.thing_text.proofs.Bytes.{reads-as}
 use Rattle.thing_text.proofs.enter_words.Statement.{statement}
 use Rattle.thing_text.proofs.enter_words.Tie as tie
-
-enum-told : tie.Need-enum-told
-enum-told c = search needs
-
-slice-aggregate-word : tie.Need-slice-aggregate-word
-slice-aggregate-word c = search needs
-
-word-requires : tie.Need-word-requires
-word-requires c κs = search needs
-
-enum-told-2 : tie.Need-enum-told-2
-enum-told-2 c = search needs
-
-slice-aggregate-word-2 : tie.Need-slice-aggregate-word-2
-slice-aggregate-word-2 c = search needs
-
-word-requires-2 : tie.Need-word-requires-2
-word-requires-2 c κs = search needs
+use Rattle.thing_text.specs.Thing.{enterText}
 
 returns : tie.Need-returns
-returns c =
-    subst (λ (s : LoopSort). Reads (enterText s) (c .word .result)) (sym (c .before .before .enum-told .given .1))
-    (c .word .ensures)
+returns c = reads-as enterText (c .before .before .enum-told .given .1) (c .word .ensures)
 
 returns-2 : tie.Need-returns-2
-returns-2 c =
-    subst (λ (s : LoopSort). Reads (enterText s) (c .word2 .result)) (sym (c .before .before .enum-told2 .given .1))
-    (c .word2 .ensures)
+returns-2 c = reads-as enterText (c .before .before .enum-told2 .given .1) (c .word2 .ensures)
 
 pub enter-words-spec : {M : Type 1} → statement M
 enter-words-spec =
     tie.close
     (tie.spec
-    enum-told
-    slice-aggregate-word
-    word-requires
-    enum-told-2
-    slice-aggregate-word-2
-    word-requires-2
-    returns
-    returns-2)
+    (λ c. search needs) (λ c. search needs) (λ c κs. search needs)
+    (λ c. search needs) (λ c. search needs) (λ c κs. search needs) returns returns-2)

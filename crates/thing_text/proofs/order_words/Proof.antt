@@ -1,12 +1,16 @@
-use mathlib.Core.Path.{sym, subst}
+-- `thing_text::order_words`: the word of each order, and what it carries. Assumes nothing.
+use borrow.Author.Needs.{needs}
+use mathlib.Core.Path.{_≡_}
 use Rattle.state.specs.declared.Order.{Order}
 use Rattle.state.specs.Meaning.{orderOf}
-use Rattle.thing_text.specs.Thing.{textOf}
-use Rattle.thing_text.specs.Code.{Reads}
-use Rattle.thing_text.proofs.Bytes.{reads-more}
-use borrow.Author.Needs.{needs}
+use Rattle.thing_text.proofs.Bytes.{reads-as, reads-more}
 use Rattle.thing_text.proofs.order_words.Statement.{statement}
 use Rattle.thing_text.proofs.order_words.Tie as tie
+use Rattle.thing_text.specs.Code.{Reads, Words}
+use Rattle.thing_text.specs.Thing.{textOf}
+
+told : {o p : Order} {w : Words} → o ≡ p → Reads (textOf (orderOf p)) w → Reads (textOf (orderOf o)) w
+told e h = reads-as (λ (o : Order). textOf (orderOf o)) e h
 
 enum-known-o : tie.Need-enum-known-o
 enum-known-o c = search needs
@@ -67,58 +71,30 @@ word-requires-5 c κs = search needs
 
 returns : tie.Need-returns
 returns c =
-    subst (λ (o : Order). Reads (textOf (orderOf o)) (c .add-amount .result))
-    (sym (c .before .before .before .before .o .given .1))
+    told (c .before .before .before .before .o .given .1)
     (reads-more (c .before .word .ensures) (c .add-amount .ensures))
 
 returns-2 : tie.Need-returns-2
 returns-2 c =
-    subst (λ (o : Order). Reads (textOf (orderOf o)) (c .add-amount2 .result))
-    (sym (c .before .before .before .before .o2 .given .1))
+    told (c .before .before .before .before .o2 .given .1)
     (reads-more (c .before .word2 .ensures) (c .add-amount2 .ensures))
 
 returns-3 : tie.Need-returns-3
 returns-3 c =
-    subst (λ (o : Order). Reads (textOf (orderOf o)) (c .add-decimal .result))
-    (sym (c .before .before .before .before .o3 .given .1))
+    told (c .before .before .before .before .o3 .given .1)
     (reads-more (c .before .word3 .ensures) (c .add-decimal .ensures .0))
 
 returns-4 : tie.Need-returns-4
-returns-4 c =
-    subst (λ (o : Order). Reads (textOf (orderOf o)) (c .word4 .result)) (sym (c .before .before .enum-told .given .1))
-    (c .word4 .ensures)
+returns-4 c = told (c .before .before .enum-told .given .1) (c .word4 .ensures)
 
 returns-5 : tie.Need-returns-5
-returns-5 c =
-    subst (λ (o : Order). Reads (textOf (orderOf o)) (c .word5 .result))
-    (sym (c .before .before .enum-told2 .given .1))
-    (c .word5 .ensures)
+returns-5 c = told (c .before .before .enum-told2 .given .1) (c .word5 .ensures)
 
 pub order-words-spec : {M : Type 1} → statement M
 order-words-spec =
     tie.close
     (tie.spec
-    enum-known-o
-    slice-aggregate-word
-    word-requires
-    add-amount-requires
-    enum-known-o-2
-    slice-aggregate-word-2
-    word-requires-2
-    add-amount-requires-2
-    enum-known-o-3
-    slice-aggregate-word-3
-    word-requires-3
-    cast-add-decimal
-    add-decimal-requires
-    enum-told
-    slice-aggregate-word-4
-    word-requires-4
-    enum-told-2
-    slice-aggregate-word-5
-    word-requires-5
-    returns
-    returns-2
-    returns-3
-    returns-4
-    returns-5)
+    enum-known-o slice-aggregate-word word-requires add-amount-requires enum-known-o-2
+    slice-aggregate-word-2 word-requires-2 add-amount-requires-2 enum-known-o-3 slice-aggregate-word-3
+    word-requires-3 cast-add-decimal add-decimal-requires enum-told slice-aggregate-word-4 word-requires-4
+    enum-told-2 slice-aggregate-word-5 word-requires-5 returns returns-2 returns-3 returns-4 returns-5)

@@ -1,8 +1,9 @@
-use mathlib.Core.Path.{_≡_}
-use Prim.Native.Nat.{_+_}
-use native.Mathlib.Omega.{arith}
-use Rattle.thing_text.proofs.Bytes.{reads-more, four-long}
+-- `thing_text::part_words`: the type and the value of a part. Assumes nothing.
 use borrow.Author.Needs.{needs}
+use mathlib.Core.Path.{_≡_}
+use native.Mathlib.Omega.{arith}
+use Prim.Native.Nat.{_+_}
+use Rattle.thing_text.proofs.Bytes.{four-long, reads-more}
 use Rattle.thing_text.proofs.part_words.Statement.{statement}
 use Rattle.thing_text.proofs.part_words.Tie as tie
 
@@ -37,9 +38,4 @@ pub part-words-spec : {M : Type 1} → statement M
 part-words-spec =
     tie.close
     (tie.spec
-    slice-aggregate-word
-    word-requires
-    add-hex4-requires
-    add-byte-requires
-    add-value-requires
-    returns)
+    slice-aggregate-word word-requires add-hex4-requires add-byte-requires add-value-requires returns)

@@ -1,8 +1,9 @@
-use mathlib.Core.Path.{_≡_}
-use Prim.Native.Nat.{_+_}
-use native.Mathlib.Omega.{arith}
-use Rattle.thing_text.proofs.Bytes.{reads-more}
+-- `thing_text::range_words`: where a text starts and ends. Assumes nothing.
 use borrow.Author.Needs.{needs}
+use mathlib.Core.Path.{_≡_}
+use native.Mathlib.Omega.{arith}
+use Prim.Native.Nat.{_+_}
+use Rattle.thing_text.proofs.Bytes.{reads-more}
 use Rattle.thing_text.proofs.range_words.Statement.{statement}
 use Rattle.thing_text.proofs.range_words.Tie as tie
 
@@ -37,9 +38,5 @@ pub range-words-spec : {M : Type 1} → statement M
 range-words-spec =
     tie.close
     (tie.spec
-    slice-aggregate-word
-    word-requires
-    add-decimal-requires
-    add-byte-requires
-    add-decimal-requires-2
-    returns)
+    slice-aggregate-word word-requires add-decimal-requires add-byte-requires
+    add-decimal-requires-2 returns)
