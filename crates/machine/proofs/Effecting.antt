@@ -1,385 +1,54 @@
 -- An effect is 01's step: for every item, for an abort, for the end of the items and for a run that has ended.
-use Prim.Native.Nat.{ℕ, zero, suc, _-_, _≤_, _<_}
+use Prim.Native.Nat.{ℕ, zero, suc, _≤_, _<_}
 use mathlib.Core.Path.{_≡_, refl, sym, ap, _∙_}
 use mathlib.Core.Bool.{Bool, true, false, not, _&&_, _||_, cond, true≢false, false≢true}
 use mathlib.Core.List.{List, [], _∷_}
 use mathlib.Core.Option.{Option, none, some}
-use native.Mathlib.Numerals.{add-one}
 use native.Mathlib.Omega.{arith}
-use lib.Dec.{eqb, ltb, leb, eqb·suc-zero}
+use lib.Dec.{eqb, ltb, eqb·suc-zero}
 use lib.ListN.{length, getD, drop}
 use borrow.Author.Tests.{lt-ltb, lt-leb, le-leb, le-ltb, ltb-true, ltb-false}
-use Rattle.value.specs.declared.Calculated.{Calculated}
-use Rattle.value.specs.declared.Calculated.the-variants as Calculated
-use Rattle.value.specs.declared.Value.the-variants as Value
-use Rattle.value.specs.Arithmetic.{finite, calculated, checked}
-use Rattle.table.specs.declared.Act.{Act}
-use Rattle.table.specs.declared.Act.the-variants as Act
-use Rattle.table.specs.declared.Branch.{Branch}
-use Rattle.table.specs.declared.Close.{Close}
 use Rattle.table.specs.declared.Close.the-variants as Close
-use Rattle.table.specs.declared.Condition.{Condition}
-use Rattle.table.specs.declared.Head.{Head}
 use Rattle.table.specs.declared.Head.the-variants as Head
 use Rattle.table.specs.declared.Item.{Item}
 use Rattle.table.specs.declared.Item.the-variants as Item
-use Rattle.table.specs.declared.Kind.the-variants as Kind
-use Rattle.table.specs.declared.Known.the-variants as Known
-use Rattle.table.specs.declared.Operand.{Operand}
-use Rattle.table.specs.declared.Operand.the-variants as Operand
-use Rattle.table.specs.declared.Pack.{Pack}
-use Rattle.table.specs.declared.Pack.the-variants as Pack
-use Rattle.table.specs.declared.Sweep.{Sweep}
 use Rattle.table.specs.Item.{isBranch, isClose, isLoop, isSweep, opensA}
-use Rattle.table.specs.Uses.{lowest, conditionUses, missing, wrong, gone, kindIn, differ, breaksOrder}
-use Rattle.mates.specs.declared.Open.{Open}
+use Rattle.table.specs.Uses.{lowest, breaksOrder}
 use Rattle.mates.specs.Mates.{itemAt, boxesAt, past, closeOf}
 use Rattle.state.specs.declared.Answer.the-variants as Answer
-use Rattle.state.specs.declared.Cell.{Cell}
-use Rattle.state.specs.declared.Cell.the-variants as Cell
 use Rattle.state.specs.declared.Control.{Control}
 use Rattle.state.specs.declared.Control.the-variants as Control
-use Rattle.state.specs.declared.Fault.{Fault}
 use Rattle.state.specs.declared.Fault.the-variants as Fault
-use Rattle.state.specs.declared.LoopSort.{LoopSort}
 use Rattle.state.specs.declared.LoopSort.the-variants as LoopSort
 use Rattle.state.specs.declared.Offer.{Offer}
 use Rattle.state.specs.declared.Offer.the-variants as Offer
-use Rattle.state.specs.declared.Point.{Point}
 use Rattle.state.specs.declared.Status.{Status}
 use Rattle.state.specs.declared.Status.the-variants as Status
-use Rattle.state.specs.declared.Stop.the-variants as Stop
 use Rattle.state.specs.declared.What.the-variants as What
 use Rattle.state.specs.State as states
-use Rattle.state.specs.State.{Vars, cellAt, cellValue, cellKind, isWritten, written, kindNow, valueOf, Out, Run, Step}
-use Rattle.state.specs.State.{said, stopsBy, code0010, goto, unskip, cleared, outer, measures, da, ba}
-use Rattle.state.specs.Meaning.{tops, faultNumber}
-use Rattle.state.proofs.Boxes.{tops-push, tops-length}
+use Rattle.state.specs.State.{Vars, Out, Run, Step, said, goto, unskip, cleared, outer}
+use Rattle.state.specs.Meaning.{tops}
 use Rattle.state.proofs.Tests.{and-yes}
-use Rattle.effect.specs.declared.Cells.{Cells}
 use Rattle.effect.specs.declared.Chosen.{Chosen}
 use Rattle.effect.specs.declared.Chosen.the-variants as Chosen
 use Rattle.effect.specs.declared.Effect.{Effect}
 use Rattle.effect.specs.declared.Looked.{Looked}
-use Rattle.effect.specs.declared.Need.the-variants as Need
 use Rattle.effect.specs.declared.Spot.{Spot}
 use Rattle.effect.specs.declared.Trouble.{Trouble}
 use Rattle.effect.specs.declared.Trouble.the-variants as Trouble
-use Rattle.effect.specs.declared.Write.{Write}
-use Rattle.effect.specs.declared.Write.the-variants as Write
 use Rattle.effect.specs.Code as effects
 use Rattle.machine.specs.Machine as rules
-use Rattle.machine.specs.Machine.{inside, unwind, leaveOuts, strays, astray, tooDeep, reads, faults, next, kept}
-use Rattle.machine.specs.Machine.{enter, leave, badOf, tagFrom, ahead, served, orFault, told, anyOpen}
-use Rattle.machine.specs.Code.{runWith, liveRun, wrote, stepOf, operandCell, Reads, chosenOf, chosenAt, closeTop}
-use Rattle.machine.specs.Code.{sweepTop, openAt, Surrounds, orLast, Here, LooksUp, stepKnown}
-use Rattle.machine.proofs.Loops.{enter-again, enter-first, leave-again, leave-empty, if-chosen}
+use Rattle.machine.specs.Machine.{unwind, leaveOuts, strays, astray, tooDeep, faults, next, badOf, tagFrom, ahead}
+use Rattle.machine.specs.Machine.{served, orFault, told, anyOpen}
+use Rattle.machine.specs.Code.{runWith, liveRun, stepOf, Reads, chosenOf, chosenAt, closeTop, sweepTop, openAt}
+use Rattle.machine.specs.Code.{Surrounds, orLast, Here, LooksUp, stepKnown}
+use Rattle.machine.proofs.Loops.{if-chosen}
 use Rattle.machine.proofs.Placed.{fault-mark}
-use Rattle.machine.proofs.Shapes.{room}
 use Rattle.machine.proofs.Stepping.{unfaulted, tag-below, item-faults, item-runs, at-end, faults-by-is}
-
--- ---- the open boxes of a spot
-
-pub after-is : (n : ℕ) → n < 128 → effects.after n ≡ suc n
-after-is n h = rw (lt-ltb n 128 h) (add-one n)
-
-below-is : (d : ℕ) → effects.below (suc d) ≡ d
-below-is d =
-    let e : suc d - 1 ≡ d = omega arith in
-    rw (eqb·suc-zero d, e)
-
-abbrev top : List ℕ → ℕ → ℕ
-top l d = cond (ltb (effects.below d) 8) (getD l (effects.below d) 0) 0
-
-top-is : (l : List ℕ) (d : ℕ) → suc d ≤ 8 → top l (suc d) ≡ getD l d 0
-top-is l d h = rw (below-is d, lt-ltb d 8 h)
-
-inside-is : (l : List ℕ) (d at : ℕ) → d ≤ 8 → cond (eqb d 0) false (eqb (top l d) at) ≡ inside at (tops l d)
-inside-is l zero at h = refl
-inside-is l (suc d) at h = rw (top-is l d h, eqb·suc-zero d)
-
-outer-is : (l : List ℕ) (d : ℕ) → tops l (effects.below d) ≡ outer (tops l d)
-outer-is l zero = refl
-outer-is l (suc d) = rw (below-is d)
-
--- ---- acts and package marks
-
-operand-value : (vs : Vars) (z : Operand) → valueOf vs z ≡ cellValue (operandCell vs z)
-operand-value vs (Operand.Name n) = refl
-operand-value vs (Operand.Literal l) = refl
-
-module _ (os : List Out) (vs : Vars) (s : Spot) (h : s .at < 128) where
-  kept-is : (n t : ℕ) (c : Calculated) → stepOf os vs (effects.keepResult s n t c) ≡ kept (liveRun vs s) n t c
-  kept-is n t (Calculated.Value v) = rw (after-is (s .at) h)
-  kept-is n t Calculated.ByZero = refl
-  kept-is n t Calculated.NotFinite = refl
-
-  acted : (a : Act) (o : Offer)
-      → stepOf os vs (effects.runAct s a (operandCell vs (effects.actOperands a .a))
-      (operandCell vs (effects.actOperands a .b)) o)
-      ≡ rules.runAct (liveRun vs s) a o
-  acted (Act.Var v) o = rw (after-is (s .at) h)
-  acted (Act.Store v l t) o = rw (after-is (s .at) h)
-  acted (Act.Copy n m) o = rw (after-is (s .at) h)
-  acted (Act.Calc f n z) o =
-      rw (operand-value vs z)
-      (kept-is n (states.cellType (cellAt vs n))
-      (calculated f (cellValue (cellAt vs n)) (cellValue (operandCell vs z))))
-  acted (Act.Meas z n t) o = kept-is n t (checked (states.reading o))
-  acted (Act.TimerGet n) o = kept-is n states.eb (checked (states.reading o))
-  acted (Act.SendString t) o = rw (after-is (s .at) h)
-  acted (Act.Wait z) o = rw (after-is (s .at) h, operand-value vs z)
-  acted (Act.SetE z) o = rw (after-is (s .at) h, operand-value vs z)
-  acted (Act.SetMode n) o = rw (after-is (s .at) h)
-  acted Act.TimerStart o = rw (after-is (s .at) h)
-  acted Act.CellOn o = rw (after-is (s .at) h)
-  acted Act.CellOff o = rw (after-is (s .at) h)
-  acted Act.Abort o = rw (after-is (s .at) h)
-
-  packed : (p : Pack)
-      → stepOf os vs (effects.runPack s p (operandCell vs (effects.packOperands p .a))) ≡ rules.runPack (liveRun vs s) p
-  packed Pack.Start = rw (after-is (s .at) h)
-  packed (Pack.Add n) = rw (after-is (s .at) h)
-  packed Pack.End = rw (after-is (s .at) h)
-
--- ---- opening marks
-
-module _ (os : List Out) (vs : Vars) (s : Spot) (h : s .at < 128) (d : s .depth ≤ 8) (w : length (s .boxes) ≡ 8) where
-  abbrev m : Run
-  m = liveRun vs s
-
-  enters-is : (k : LoopSort) (p q : Write) → (inside (s .at) (openAt s) ≡ false → s .depth < 8)
-      → stepOf os vs (effects.enterLoop s k p q) ≡ enter k (liveRun (wrote q (wrote p vs)) s)
-  enters-is k p q r = rw (inside-is (s .boxes) (s .depth) (s .at) d) (go (inside (s .at) (openAt s)) refl)
-    where
-      go : (b : Bool) → inside (s .at) (openAt s) ≡ b
-          → stepOf os vs (cond b (effects.acting (effects.goOn s) What.Nothing What.Nothing p q)
-          (effects.acting (effects.goOn (effects.push s)) (What.Enter k) What.Nothing p q))
-          ≡ enter k (liveRun (wrote q (wrote p vs)) s)
-      go true e = rw (after-is (s .at) h) (enter-again k (liveRun (wrote q (wrote p vs)) s) e)
-      go false e =
-          rw (
-            lt-ltb (s .depth) 8 (r e),
-            after-is (s .at) h,
-            tops-push (s .boxes) (s .depth) (s .at) (omega (arith, w, r e)),
-          )
-          (enter-first k (liveRun (wrote q (wrote p vs)) s) e)
-
-  leaves-is : (xs : List Item) (k : LoopSort) (i : ℕ) → i ≡ past (closeOf xs (s .at))
-      → stepOf os vs (effects.leaveLoop s k i) ≡ leave xs k m
-  leaves-is xs k i f = rw (inside-is (s .boxes) (s .depth) (s .at) d) (go (inside (s .at) (openAt s)) refl)
-    where
-      go : (b : Bool) → inside (s .at) (openAt s) ≡ b
-          → stepOf os vs (cond b
-          (effects.saying (effects.leaveTo s (effects.below (s .depth)) i (measures k)) (What.Leave k))
-          (effects.acting (effects.leaveTo s (s .depth) i (measures k)) (What.Enter k) (What.Leave k)
-          Write.Nothing Write.Nothing))
-          ≡ leave xs k m
-      go true e = rw (outer-is (s .boxes) (s .depth)) (leave-again xs k m (measures k) i refl f e)
-      go false e = leave-empty xs k m (measures k) i refl f e
-
-  chosen-is : (c : Chosen) → s .depth < 8 → stepOf os vs (effects.runChosen s c) ≡ rules.chosen m (chosenOf c)
-  chosen-is (Chosen.Into i) r = rw (lt-ltb (s .depth) 8 r, tops-push (s .boxes) (s .depth) (s .at) (omega (arith, w)))
-  chosen-is (Chosen.Beyond i) r = refl
-  chosen-is (Chosen.Bad f) r = refl
-
-  abbrev first : Sweep → Point → Write
-  first v p = Write.Put (v .potential) (Cell.Holds (Value.Real (p .potential)) da)
-
-  abbrev second : Sweep → Point → Write
-  second v p = Write.Put (v .current) (Cell.Holds (Value.Real (p .current)) ba)
-
-  point-is : (v : Sweep) (p : Point) → (inside (s .at) (openAt s) ≡ false → s .depth < 8)
-      → stepOf os vs (effects.runPoint s v p) ≡ rules.runPoint m v (p .potential) (p .current)
-  point-is v p r = go (finite (Value.Real (p .potential)) && finite (Value.Real (p .current)))
-    where
-      go : (b : Bool)
-          → stepOf os vs (cond b (effects.enterLoop s LoopSort.Sweep (first v p) (second v p))
-          (effects.stopBy s Stop.NotFinite))
-          ≡ cond b (enter LoopSort.Sweep (liveRun (wrote (second v p) (wrote (first v p) vs)) s)) (stopsBy code0010 m)
-      go true = enters-is LoopSort.Sweep (first v p) (second v p) r
-      go false = refl
-
-  sweep-is : (xs : List Item) (v : Sweep) (i : ℕ) (o : Offer) → i ≡ past (closeOf xs (s .at))
-      → (inside (s .at) (openAt s) ≡ false → s .depth < 8)
-      → stepOf os vs (effects.runSweep s v i o) ≡ rules.runSweep xs m v o
-  sweep-is xs v i Offer.Nothing f r = leaves-is xs LoopSort.Sweep i f
-  sweep-is xs v i (Offer.Float x) f r = leaves-is xs LoopSort.Sweep i f
-  sweep-is xs v i (Offer.Point p) f r = point-is v p r
-  sweep-is xs v i Offer.Done f r = leaves-is xs LoopSort.Sweep i f
-
-  loop-is : (xs : List Item) (b : Bool) (i : ℕ) → i ≡ past (closeOf xs (s .at))
-      → (inside (s .at) (openAt s) ≡ false → s .depth < 8)
-      → stepOf os vs (effects.runLoop s b i) ≡ cond b (enter LoopSort.Loop m) (leave xs LoopSort.Loop m)
-  loop-is xs true i f r = enters-is LoopSort.Loop Write.Nothing Write.Nothing r
-  loop-is xs false i f r = leaves-is xs LoopSort.Loop i f
-
--- ---- faults
-
--- there is room for one more box, save where a loop's own is the innermost
-room-loop : (l : List ℕ) (d at : ℕ) → (leb 8 (length (tops l d)) && not (inside at (tops l d))) ≡ false
-    → inside at (tops l d) ≡ false → d < 8
-room-loop l d at e q = rw (tops-length l d) at (room (length (tops l d)) (not (inside at (tops l d))) e (rw q))
-
-room-if : (l : List ℕ) (d : ℕ) → (leb 8 (length (tops l d)) && true) ≡ false → d < 8
-room-if l d e = rw (tops-length l d) at (room (length (tops l d)) true e refl)
-
-gone-cell : (c : Cell) → effects.isGone c ≡ not (isWritten c)
-gone-cell Cell.Unwritten = refl
-gone-cell (Cell.Holds v t) = refl
-
-whole-cell : (c : Cell) → effects.isWhole c ≡ differ (cellKind c) (Known.Of Kind.Real)
-whole-cell Cell.Unwritten = refl
-whole-cell (Cell.Holds (Value.Whole z) t) = refl
-whole-cell (Cell.Holds (Value.Real x) t) = refl
-
-kinds-cell : (a b : Cell) → effects.kindsDiffer a b ≡ differ (cellKind a) (cellKind b)
-kinds-cell Cell.Unwritten b = refl
-kinds-cell (Cell.Holds (Value.Whole z) t) Cell.Unwritten = refl
-kinds-cell (Cell.Holds (Value.Whole z) t) (Cell.Holds (Value.Whole y) u) = refl
-kinds-cell (Cell.Holds (Value.Whole z) t) (Cell.Holds (Value.Real y) u) = refl
-kinds-cell (Cell.Holds (Value.Real z) t) Cell.Unwritten = refl
-kinds-cell (Cell.Holds (Value.Real z) t) (Cell.Holds (Value.Whole y) u) = refl
-kinds-cell (Cell.Holds (Value.Real z) t) (Cell.Holds (Value.Real y) u) = refl
-
-module _ (vs : Vars) where
-  gone-is : (z : Operand) (c : Cell) → operandCell vs z ≡ c → effects.isGone c ≡ gone (written vs) z
-  gone-is (Operand.Name n) c e = rw (← e) (gone-cell (cellAt vs n))
-  gone-is (Operand.Literal l) c e = rw (← e)
-
-  kind-is : (z : Operand) → kindIn (kindNow vs) z ≡ cellKind (operandCell vs z)
-  kind-is (Operand.Name n) = refl
-  kind-is (Operand.Literal l) = refl
-
-  whole-is : (z : Operand) (c : Cell) → operandCell vs z ≡ c
-      → effects.isWhole c ≡ differ (kindIn (kindNow vs) z) (Known.Of Kind.Real)
-  whole-is z c e = rw (← e, kind-is z) (whole-cell (operandCell vs z))
-
-  kinds-are : (y z : Operand) (b c : Cell) → operandCell vs y ≡ b → operandCell vs z ≡ c
-      → effects.kindsDiffer b c ≡ differ (kindIn (kindNow vs) y) (kindIn (kindNow vs) z)
-  kinds-are y z b c e f = rw (← e, ← f, kind-is y, kind-is z) (kinds-cell (operandCell vs y) (operandCell vs z))
-
-  module _ (k : Cells) where
-    module _ (c : Condition) (e : operandCell vs (c .left) ≡ k .a) (f : operandCell vs (c .right) ≡ k .b) where
-      pub missing-two : effects.cellsMissing Need.Alike k ≡ missing (written vs) (conditionUses c)
-      missing-two = rw (gone-is (c .left) (k .a) e, gone-is (c .right) (k .b) f)
-
-      pub wrong-two : effects.cellsWrong Need.Alike k ≡ wrong (kindNow vs) (conditionUses c)
-      wrong-two = kinds-are (c .left) (c .right) (k .a) (k .b) e f
-
-      pub holds-two : effects.holds c k ≡ states.holds vs c
-      holds-two = rw (← e, ← f, operand-value vs (c .left), operand-value vs (c .right))
-
-    missing-is : (x : Item) → Reads vs (effects.operandsOf x) k
-        → effects.cellsMissing (effects.needOf x) k ≡ missing (written vs) (reads x)
-    missing-is (Item.Act (Act.Var v)) r = refl
-    missing-is (Item.Act (Act.Store v l t)) r = refl
-    missing-is (Item.Act (Act.Copy n m)) r = gone-is (Operand.Name n) (k .a) (r .first)
-    missing-is (Item.Act (Act.Calc f n z)) r =
-        rw (gone-is (Operand.Name n) (k .a) (r .first), gone-is z (k .b) (r .second))
-    missing-is (Item.Act (Act.Meas z n t)) r = gone-is z (k .a) (r .first)
-    missing-is (Item.Act (Act.TimerGet n)) r = refl
-    missing-is (Item.Act (Act.SendString t)) r = refl
-    missing-is (Item.Act (Act.Wait z)) r = gone-is z (k .a) (r .first)
-    missing-is (Item.Act (Act.SetE z)) r = gone-is z (k .a) (r .first)
-    missing-is (Item.Act (Act.SetMode n)) r = refl
-    missing-is (Item.Act Act.TimerStart) r = refl
-    missing-is (Item.Act Act.CellOn) r = refl
-    missing-is (Item.Act Act.CellOff) r = refl
-    missing-is (Item.Act Act.Abort) r = refl
-    missing-is (Item.Pack Pack.Start) r = refl
-    missing-is (Item.Pack (Pack.Add n)) r = gone-is (Operand.Name n) (k .a) (r .first)
-    missing-is (Item.Pack Pack.End) r = refl
-    missing-is (Item.Open (Head.If c)) r = missing-two c (r .first) (r .second)
-    missing-is (Item.Open (Head.Loop c)) r = missing-two c (r .first) (r .second)
-    missing-is (Item.Open (Head.Sweep w)) r =
-        rw (
-          gone-is (w .begin) (k .a) (r .first),
-          gone-is (w .end) (k .b) (r .second),
-          gone-is (w .step) (k .c) (r .third),
-          gone-is (w .rate) (k .d) (r .fourth),
-        )
-    missing-is (Item.Branch b) r = refl
-    missing-is (Item.Close e) r = refl
-    missing-is Item.Break r = refl
-    missing-is Item.Tag r = refl
-
-    wrong-is : (x : Item) → Reads vs (effects.operandsOf x) k
-        → effects.cellsWrong (effects.needOf x) k ≡ wrong (kindNow vs) (reads x)
-    wrong-is (Item.Act (Act.Var v)) r = refl
-    wrong-is (Item.Act (Act.Store v l t)) r = refl
-    wrong-is (Item.Act (Act.Copy n m)) r = refl
-    wrong-is (Item.Act (Act.Calc f n z)) r = kinds-are (Operand.Name n) z (k .a) (k .b) (r .first) (r .second)
-    wrong-is (Item.Act (Act.Meas z n t)) r = whole-is z (k .a) (r .first)
-    wrong-is (Item.Act (Act.TimerGet n)) r = refl
-    wrong-is (Item.Act (Act.SendString t)) r = refl
-    wrong-is (Item.Act (Act.Wait z)) r = whole-is z (k .a) (r .first)
-    wrong-is (Item.Act (Act.SetE z)) r = whole-is z (k .a) (r .first)
-    wrong-is (Item.Act (Act.SetMode n)) r = refl
-    wrong-is (Item.Act Act.TimerStart) r = refl
-    wrong-is (Item.Act Act.CellOn) r = refl
-    wrong-is (Item.Act Act.CellOff) r = refl
-    wrong-is (Item.Act Act.Abort) r = refl
-    wrong-is (Item.Pack Pack.Start) r = refl
-    wrong-is (Item.Pack (Pack.Add n)) r = refl
-    wrong-is (Item.Pack Pack.End) r = refl
-    wrong-is (Item.Open (Head.If c)) r = wrong-two c (r .first) (r .second)
-    wrong-is (Item.Open (Head.Loop c)) r = wrong-two c (r .first) (r .second)
-    wrong-is (Item.Open (Head.Sweep w)) r =
-        rw (
-          whole-is (w .begin) (k .a) (r .first),
-          whole-is (w .end) (k .b) (r .second),
-          whole-is (w .step) (k .c) (r .third),
-          whole-is (w .rate) (k .d) (r .fourth),
-        )
-    wrong-is (Item.Branch b) r = refl
-    wrong-is (Item.Close e) r = refl
-    wrong-is Item.Break r = refl
-    wrong-is Item.Tag r = refl
-
--- 63
-module _ (vs : Vars) (s : Spot) (d : s .depth ≤ 8) where
-  deep-item : (x : Item) → 8 ≤ s .depth → effects.deepItem s x ≡ tooDeep (liveRun vs s) x
-  deep-item (Item.Act a) h = refl
-  deep-item (Item.Pack p) h = refl
-  deep-item (Item.Open (Head.If c)) h = rw (tops-length (s .boxes) (s .depth), le-leb 8 (s .depth) h)
-  deep-item (Item.Open (Head.Loop c)) h =
-      rw (tops-length (s .boxes) (s .depth), le-leb 8 (s .depth) h) (ap not (inside-is (s .boxes) (s .depth) (s .at) d))
-  deep-item (Item.Open (Head.Sweep c)) h =
-      rw (tops-length (s .boxes) (s .depth), le-leb 8 (s .depth) h) (ap not (inside-is (s .boxes) (s .depth) (s .at) d))
-  deep-item (Item.Branch b) h = refl
-  deep-item (Item.Close e) h = refl
-  deep-item Item.Break h = refl
-  deep-item Item.Tag h = refl
-
-  shallow : (x : Item) → s .depth < 8 → false ≡ tooDeep (liveRun vs s) x
-  shallow (Item.Act a) h = refl
-  shallow (Item.Pack p) h = refl
-  shallow (Item.Open a) h = rw (tops-length (s .boxes) (s .depth), lt-leb 8 (s .depth) h)
-  shallow (Item.Branch b) h = refl
-  shallow (Item.Close e) h = refl
-  shallow Item.Break h = refl
-  shallow Item.Tag h = refl
-
-  depth-is : (x : Item) → effects.depthFault′ s x ≡ tooDeep (liveRun vs s) x
-  depth-is x = go (ltb (s .depth) 8) refl
-    where
-      go : (b : Bool) → ltb (s .depth) 8 ≡ b → cond b false (effects.deepItem s x) ≡ tooDeep (liveRun vs s) x
-      go true e = shallow x (ltb-true (s .depth) 8 e)
-      go false e = deep-item x (ltb-false (s .depth) 8 e)
-
-abbrev troubleOf : Trouble → ℕ
-troubleOf Trouble.None = 0
-troubleOf (Trouble.Fault f) = faultNumber f
-
-fault-number : (a b c d e : Bool) → troubleOf (effects.orElse (effects.readFault a b) (effects.markFault c d e))
-    ≡ lowest ((60, a) ∷ (61, b) ∷ (62, c) ∷ (63, d) ∷ (64, e) ∷ [])
-fault-number true b c d e = refl
-fault-number false true c d e = refl
-fault-number false false true d e = refl
-fault-number false false false true e = refl
-fault-number false false false false true = refl
-fault-number false false false false false = refl
+use Rattle.machine.proofs.Running.{below-is, top, top-is, acted, packed, chosen-is, sweep-is, loop-is}
+use Rattle.machine.proofs.Faulting.{room-loop, room-if, missing-is, wrong-is, depth-is, troubleOf, fault-number}
+pub use Rattle.machine.proofs.Running.{after-is}
+pub use Rattle.machine.proofs.Faulting.{missing-two, wrong-two, holds-two}
 
 -- ---- one item
 
