@@ -1,10 +1,9 @@
 -- Kinds as two sets of names. Assumes nothing.
 use Prim.Native.Nat.{ℕ, zero, suc}
-use mathlib.Core.Path.{_≡_, refl, sym, ap, _∙_, subst}
+use mathlib.Core.Path.{_≡_, refl, sym, ap, _∙_}
 use mathlib.Core.Bool.{Bool, true, false, not, _&&_, _||_}
 use mathlib.Core.List.{List, [], _∷_}
 use native.Mathlib.Omega.{arith}
-use lib.Dec.{T}
 use lib.ListN.{length, getD, set, replicate}
 use lib.Seq.{set-getD}
 use Rattle.table.specs.Uses.{Names, has, Kinds, kindAt, differ}
@@ -15,9 +14,7 @@ use Rattle.table.specs.declared.Known.the-variants as Known
 use Rattle.table.specs.declared.Kind.the-variants as Kind
 use Rattle.rules.specs.Check.{isKnown, orElse}
 use Rattle.rules.specs.Code.{Sorted, kindBy, kindsBy, kindsIn, isWhole, isFloat, learnt}
-
-no : {X : Type 0} → true ≡ false → X
-no e = absurd (subst T e tt)
+use Rattle.rules.proofs.Forms.{no}
 
 -- ---- the kind of a name
 
