@@ -6,7 +6,7 @@ use mathlib.Core.List.{List, [], _∷_}
 use mathlib.Core.Option.{Option, some}
 use native.Mathlib.Nat.{not-suc-le-zero, le-of-suc-le-suc, add-zero, zero-add}
 use native.Mathlib.Omega.{arith}
-use lib.Dec.{eqb, T}
+use lib.Dec.{eqb}
 use lib.ListN.{length, take, drop, replicate}
 use borrow.Author.Tests.{eq-eqb}
 use Rattle.laws.proofs.Bools.{no}
@@ -22,6 +22,7 @@ use Rattle.mates.specs.Mates.{fitsTop, scan, scanAll, belongs, closeFrom, itemA
 use Rattle.rules.specs.Check.{State, kindsOf, isEmpty, misplaced, refusals, refusalsAtEnd, Verdict, accepted}
 use Rattle.rules.specs.Check.{refused, orGo, walk, atLine, walked, verdict}
 use Rattle.rules.specs.Mated.{isFound, Mated}
+use Rattle.rules.proofs.Forms.{no}
 use Rattle.rules.proofs.Rows.{no-refusal, no-refusal-at-end}
 use Rattle.rules.proofs.Placed.{Box, Placed, atStart, placed, plains, bare, after, same-walk}
 

@@ -1,3 +1,4 @@
+-- `rules::misplaced_mark` matches the form: a `returns` for each arm. What has no name is found by search.
 use Rattle.rules.specs.Code.{markIn}
 use borrow.Author.Needs.{needs}
 use Rattle.rules.proofs.refusals.misplaced_mark.Statement.{statement}

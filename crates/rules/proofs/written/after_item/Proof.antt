@@ -1,3 +1,4 @@
+-- `rules::after_item` matches the form: a `returns` for each arm. What has no name is found by search.
 use Rattle.rules.specs.Code.{moved}
 use borrow.Author.Needs.{needs}
 use Rattle.rules.proofs.written.after_item.Statement.{statement}
