@@ -1,6 +1,5 @@
 // Puts answers into a lent buffer, each from a place on. Every function answers the place behind what it put; what has
 // no room is left out.
-ghost use mathlib.Core.Path.{_≡_};
 ghost use Prim.Native.Nat.{_≤_};
 use value::Value;
 
@@ -8,9 +7,6 @@ use value::Value;
 const HALF: u64 = 65536;
 
 const WORD: u64 = 4294967296;
-
-// The pattern of every NaN here.
-const NAN: u64 = 0x7FF8000000000000;
 
 pub fn put(out: &mut [u8], at: usize, s: &[u8]) -> usize {
     if out.len() < at {
@@ -29,9 +25,10 @@ pub fn put_byte(out: &mut [u8], at: usize, b: u8) -> usize {
 }
 
 pub fn put_number(out: &mut [u8], at: usize, n: usize) -> usize {
-    let mut digits = [0u8; 20];
-    let k = io::decimal(n as u64, &mut digits);
-    put(out, at, &digits[..k])
+    let digits = text::decimal_of(n as u64);
+    let bytes = digits.bytes;
+    let from = digits.from;
+    put(out, at, &bytes[from..])
 }
 
 // A line of a key, with its `=`, and a number.
@@ -72,33 +69,14 @@ pub fn put_hex(out: &mut [u8], at: usize, s: &[u8]) -> usize {
 
 // ---- values
 
-fn wide(n: i32) -> i64
-    ensures { λ r. ⌜ r ≡ n ⌝ }
-{
-    n as i64
-}
-
-// The two's-complement word of a number.
-fn word_of(n: i32) -> u32 {
-    if n < 0 {
-        let w = wide(n);
-        return (w + 4294967296) as u32;
-    }
-    n as u32
-}
-
 pub fn put_whole(out: &mut [u8], at: usize, n: i32) -> usize {
-    let word = word_of(n);
+    let word = value::word_of(n);
     if n < 0 {
         let at = put(out, at, b"-");
         let size = WORD - word as u64;
         return put_number(out, at, size as usize);
     }
     put_number(out, at, word as usize)
-}
-
-fn bits_of(x: f64) -> u64 {
-    if x != x { NAN } else { f64::to_bits(x) }
 }
 
 // Sixteen of the bits, those at this power of two and above.
@@ -110,7 +88,7 @@ fn quarter(n: u64, by: u64) -> u16
 }
 
 pub fn put_float(out: &mut [u8], at: usize, x: f64) -> usize {
-    let n = bits_of(x);
+    let n = value::bits_of(x);
     let at = put_hex4(out, at, quarter(n, HALF * WORD));
     let at = put_hex4(out, at, quarter(n, WORD));
     let at = put_hex4(out, at, quarter(n, HALF));

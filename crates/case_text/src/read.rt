@@ -3,6 +3,7 @@ ghost use Prim.Native.Nat.{_≤_};
 ghost use lib.ListN.{length};
 ghost use Rattle.io.specs.Counts.{Counts};
 use text::Hex;
+use text::Number;
 use value::Calculated;
 use value::Operation;
 use value::Value;
@@ -96,45 +97,8 @@ pub fn find(s: &[u8], key: &[u8]) -> usize
 
 // ---- decimals
 
-// A number, and the place behind its digits.
-pub struct Digits {
-    pub number: u64,
-    pub next: usize,
-}
-
-fn digit(c: u8) -> u64 {
-    if c < b'0' {
-        return 10;
-    }
-    if b'9' < c {
-        return 10;
-    }
-    (c - b'0') as u64
-}
-
-// Ten times a number, and a digit more; what is too large wraps.
-fn grown(n: u64, d: u64) -> u64 {
-    let two = std::num::wrapping_add_u64(n, n);
-    let four = std::num::wrapping_add_u64(two, two);
-    let eight = std::num::wrapping_add_u64(four, four);
-    std::num::wrapping_add_u64(std::num::wrapping_add_u64(eight, two), d)
-}
-
-pub fn decimal(s: &[u8], at: usize) -> Digits {
-    let mut number: u64 = 0;
-    let mut i = at;
-    while i < s.len() {
-        let d = digit(s[i]);
-        if 9 < d {
-            break;
-        }
-        number = grown(number, d);
-        i += 1;
-    }
-    Digits {
-        number: number,
-        next: i,
-    }
+pub fn decimal(s: &[u8], at: usize) -> Number {
+    text::decimal_at(s, at)
 }
 
 pub fn number(s: &[u8], at: usize) -> usize {
