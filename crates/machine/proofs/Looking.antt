@@ -2,19 +2,21 @@
 use Prim.Native.Nat.{ℕ, _+_, _-_, _≤_, _<_}
 use mathlib.Core.Path.{_≡_, refl, sym, ap, _∙_}
 use mathlib.Core.Bool.{Bool, true, false, _&&_}
-use mathlib.Core.List.{List, [], _∷_, _++_}
+use mathlib.Core.List.{List, _++_}
 use native.Mathlib.Omega.{arith}
-use lib.ListN.{length, getD, take, drop, replicate, length-append}
+use lib.ListN.{length, getD, take, length-append}
 use lib.Seq.{length-take-le}
 use Rattle.table.specs.declared.Item.{Item}
 use Rattle.table.specs.declared.Script.{Script}
 use Rattle.table.specs.Item.{isSweep}
 use Rattle.table.specs.Shape.{itemsOf, noSlot, inShape}
 use Rattle.mates.specs.declared.Mark.{Mark}
+use Rattle.mates.specs.declared.Survey.{Survey}
 use Rattle.mates.specs.Mates.{itemAt}
-use Rattle.mates.specs.Code.{Marked, Seen, tagIn}
-use Rattle.state.specs.State.{Out, Run, Step}
-use Rattle.state.specs.Meaning.{cellsOf, answerOf, outsOf, tops}
+use Rattle.mates.specs.Code.{Marked, Seen, Surveyed, tagIn}
+use Rattle.mates.proofs.Scanned.{marked}
+use Rattle.state.specs.State.{Out, Run, Step, Vars}
+use Rattle.state.specs.Meaning.{cellsOf, outsOf, runOf}
 use Rattle.state.proofs.Boxes.{tops-length}
 use Rattle.state.proofs.Names.{noVar}
 use Rattle.state.proofs.Things.{outs-length}
@@ -23,89 +25,27 @@ use Rattle.effect.specs.declared.Spot.{Spot}
 use Rattle.effect.specs.declared.Effect.{Effect}
 use Rattle.effect.specs.declared.Around.{Around}
 use Rattle.effect.specs.declared.Cells.{Cells}
+use Rattle.effect.specs.declared.Chosen.{Chosen}
 use Rattle.effect.specs.declared.Looked.{Looked}
 use Rattle.effect.specs.declared.Operands.{Operands}
 use Rattle.effect.specs.declared.Places.{Places}
 use Rattle.effect.specs.declared.Tried.{Tried}
-use Rattle.machine.specs.Words.{Control, Offer, Status, Thing, Var}
+use Rattle.machine.specs.Words.{Control, Offer, State, Status, Thing, Var}
+use Rattle.machine.specs.Machine as rules
 use Rattle.machine.specs.Machine.{anyOpen, leaveOuts, runOk}
-use Rattle.machine.specs.Code.{runWith, liveRun, wrote, handsOut, stepOf, operandCell, chosenOf, chosenAt}
-use Rattle.machine.specs.Code.{triedBy, openAt, Surrounds, Here, LooksUp, Stands, stepKnown, least}
+use Rattle.machine.specs.Code.{runWith, stepOf, operandCell, chosenOf, triedAt, triedBy, openAt, Surrounds, Here}
+use Rattle.machine.specs.Code.{LooksUp, stepKnown, least}
 use Rattle.machine.proofs.Effecting.{effect-is}
-use Rattle.machine.proofs.Laying.{Laid, Leaving}
+use Rattle.machine.proofs.Laying.{Laid}
 use Rattle.machine.proofs.Lookups.{reads-all, reads-first, reads-second, mates, tried-all, first-tried, count-is}
-use Rattle.machine.proofs.Lookups.{items-few, item-clamped, tag-is}
-use Rattle.machine.proofs.Shapes.{and-l, and-r, shape-stands}
-
--- what the calls said before the effect is made
-pub record Asked (t : Script) (ms : List Mark) (vars : List Var) (s : Spot) (k : Looked) (found : Tried) (j : ℕ) : Type
-    0 where
-  pub full : length (t .items) ≡ 128
-  pub marked : Marked (itemsOf t) ms
-  pub row : length vars ≡ 32
-  pub wide : length (s .boxes) ≡ 8
-  pub count : k .count ≡ least (t .count) 128
-  pub tag : k .tag ≡ tagIn ms (k .count)
-  pub item : k .item ≡ (getD (t .items) (least (s .at) 127) noSlot) .item
-  pub cells : k .cells
-      ≡ effects.cellsOf (effects.operandsOf (k .item))
-      (getD vars (effects.placeOf (effects.operandsOf (k .item) .a)) noVar)
-      (getD vars (effects.placeOf (effects.operandsOf (k .item) .b)) noVar)
-      (getD vars (effects.placeOf (effects.operandsOf (k .item) .c)) noVar)
-      (getD vars (effects.placeOf (effects.operandsOf (k .item) .d)) noVar)
-  pub chosen : k .chosen ≡ effects.chosenBy found
-  pub ended : effects.triesOn found j (k .count) ≡ false
-  pub tried : triedBy found (mates (itemsOf t) (cellsOf vars) (s .at) j)
-      ≡ triedBy (effects.tryFirst (k .item) (k .cells) (s .at)) (mates (itemsOf t) (cellsOf vars) (s .at) (s .at))
-  pub around : s .depth ≤ 8
-      → Seen ms (λ xs. (k .around .sweeping ≡ anyOpen isSweep xs (openAt s))
-      × (itemAt xs (s .at) ≡ k .item → Surrounds xs s (k .item) (k .around)))
-
-module _ {t : Script} {ms : List Mark} {vars : List Var} {s : Spot} {k : Looked} {found : Tried} {j : ℕ}
-    (a : Asked t ms vars s k found j) where
-  abbrev xs : List Item
-  xs = itemsOf t
-
-  counted : k .count ≡ length xs
-  counted = a .count ∙ sym (count-is t (a .full))
-
-  here : s .depth ≤ 8 → s .at < length xs → Here xs (cellsOf vars) s k
-  here d q =
-      let item : itemAt xs (s .at) ≡ k .item = item-clamped t (a .full) (s .at) q ∙ sym (a .item) in
-      let read = rw (← (a .cells)) at (reads-all vars (a .row) (effects.operandsOf (k .item))) in
-      record {
-        item = item;
-        read = read;
-        chosen =
-            ap chosenOf (a .chosen)
-            ∙ tried-all found xs (cellsOf vars) (s .at) j (k .count) (a .ended) (omega (arith, counted))
-            ∙ a .tried
-            ∙ first-tried xs (cellsOf vars) s (k .item) (k .cells) (omega (arith, items-few t (a .full))) read;
-        around = a .around d xs (a .marked) .1 item;
-      }
-
-  looks : s .depth ≤ 8 → LooksUp xs (cellsOf vars) s k
-  looks d = record {
-    few = items-few t (a .full);
-    deep = d;
-    wide = a .wide;
-    count = counted;
-    tag = a .tag ∙ tag-is xs ms (a .marked) (k .count) counted;
-    sweeping = a .around d xs (a .marked) .0;
-    here = here d;
-  }
-
-  -- what is looked up, made an effect and applied is the step
-  pub turn-is : (b : Bool) (st : Status) (c : Control) (o : Offer) (e : Effect) → (b ≡ true → s .depth ≤ 8)
-      → e ≡ effects.effectOf b s st k c o
-      → stepOf (leaveOuts xs (openAt s)) (cellsOf vars) e ≡ stepKnown b xs (runWith (cellsOf vars) s st) c o
-  turn-is b st c o e d q = rw q (effect-is xs (cellsOf vars) s k c o b st (λ z. looks (d z)))
+use Rattle.machine.proofs.Lookups.{items-few, item-clamped, tag-is, goes-on, tried-more, item-here, least-most}
+use Rattle.machine.proofs.Shapes.{and-r, shape-stands}
 
 no : {X : Type 0} → false ≡ true → X
 no e = let z : _≡_ {A = ℕ} 0 1 = cc in absurd (omega arith)
 
 -- a run whose table and state are in shape has at most eight open boxes
-pub known-deep : (size : ℕ) (t : Script) (vars : List Var) (s : Spot) (st : Status) (b : Bool) → length (t .items) ≡ 128
+known-deep : (size : ℕ) (t : Script) (vars : List Var) (s : Spot) (st : Status) (b : Bool) → length (t .items) ≡ 128
     → b ≡ (inShape size t && runOk (itemsOf t) (runWith (cellsOf vars) s st)) → b ≡ true → s .depth ≤ 8
 known-deep size t vars s st b full e q =
     rw (tops-length (s .boxes) (s .depth)) at
@@ -113,7 +53,7 @@ known-deep size t vars s st b full e q =
     (and-r (inShape size t) (runOk (itemsOf t) (runWith (cellsOf vars) s st)) (sym e ∙ q)) .few)
 
 -- boxes are left only where they are in shape
-pub leaves-deep : (b : Bool) (s : Spot) (st : Status) (k : Looked) (c : Control) (o : Offer) (e : Effect)
+leaves-deep : (b : Bool) (s : Spot) (st : Status) (k : Looked) (c : Control) (o : Offer) (e : Effect)
     → (b ≡ true → s .depth ≤ 8)
     → e ≡ effects.effectOf b s st k c o → e .leaves ≡ true → s .depth ≤ 8
 leaves-deep true s st k c o e d q z = d refl
@@ -129,24 +69,15 @@ laid-count n h₀ h hs hs₀ os l p q w =
     ∙ length-append (take h₀ (outsOf hs₀)) os in
     omega arith
 
--- from here on, for the loop over the boxes
-pub leave-anew : {n : ℕ} {xs : List Item} {l : List ℕ} {os : List Out} {h₀ : ℕ} {hs : List Thing} {h k : ℕ}
-    → Leaving n xs l os h₀ hs h k
-    → Leaving n xs l (take h (outsOf hs) ++ leaveOuts xs (tops l k)) h₀ hs h k
-leave-anew w = record { laid = w .laid; few = w .few; room = w .room; so-far = refl }
-
-pub laid-as : {n : ℕ} {hs : List Thing} {h : ℕ} {os os′ : List Out} → Laid n hs h os → os ≡ os′ → Laid n hs h os′
-laid-as w e = record { wide = w .wide; taken = w .taken ∙ e; blank = w .blank }
-
 -- table and state are judged by the pass and by the state's own test
-pub known-by : (size : ℕ) (t : Script) (m : Run) (ms : List Mark) (a b : Bool) (n : ℕ) → length (t .items) ≡ 128
+known-by : (size : ℕ) (t : Script) (m : Run) (ms : List Mark) (a b : Bool) (n : ℕ) → length (t .items) ≡ 128
     → Marked (itemsOf t) ms
     → a ≡ inShape size t → Seen ms (λ xs. length xs ≡ n → b ≡ runOk xs m) → n ≡ least (t .count) 128
     → (a && b) ≡ (inShape size t && runOk (itemsOf t) m)
 known-by size t m ms a b n full k e f c = rw (e, f (itemsOf t) k (count-is t full ∙ sym c))
 
 -- the cells that were fetched
-pub cells-by : (vars : List Var) (x : Item) (o : Operands) (p : Places) (k : Cells) → o ≡ effects.operandsOf x
+cells-by : (vars : List Var) (x : Item) (o : Operands) (p : Places) (k : Cells) → o ≡ effects.operandsOf x
     → p ≡ effects.placesOf o
     → k ≡ effects.cellsOf o (getD vars (p .a) noVar) (getD vars (p .b) noVar) (getD vars (p .c) noVar)
     (getD vars (p .d) noVar)
@@ -157,7 +88,7 @@ pub cells-by : (vars : List Var) (x : Item) (o : Operands) (p : Places) (k : Cel
 cells-by vars x o p k e f g = g ∙ rw (f, e)
 
 -- and the first two of a mate
-pub two-by : (vars : List Var) (x : Item) (o : Operands) (p : Places) (k : Cells) → length vars ≡ 32
+two-by : (vars : List Var) (x : Item) (o : Operands) (p : Places) (k : Cells) → length vars ≡ 32
     → o ≡ effects.operandsOf x → p ≡ effects.placesOf o
     → k ≡ effects.cellsOf o (getD vars (p .a) noVar) (getD vars (p .b) noVar) (getD vars (p .a) noVar)
     (getD vars (p .b) noVar)
@@ -165,3 +96,205 @@ pub two-by : (vars : List Var) (x : Item) (o : Operands) (p : Places) (k : Cells
     × (operandCell (cellsOf vars) (effects.operandsOf x .b) ≡ k .b)
 two-by vars x o p k h e f g =
     rw (g, f, e) (reads-first vars h (effects.operandsOf x), reads-second vars h (effects.operandsOf x))
+
+-- ---- one turn, place by place
+
+abbrev pub Known : Bool → ℕ → Script → Run → Type 0
+Known b size t m = b ≡ (inShape size t && runOk (itemsOf t) m)
+
+-- the values with which a turn begins
+pub record Stage : Type 0 where
+  pub size : ℕ
+  pub script : Script
+  pub marks : List Mark
+  pub count : ℕ
+  pub tag : ℕ
+  pub shaped : Bool
+  pub vars : List Var
+  pub spot : Spot
+  pub status : Status
+
+abbrev pub stage : ℕ → Script → List Mark → ℕ → ℕ → Bool → List Var → Spot → Status → Stage
+stage size t ms n tag b vars s st = record {
+  size = size;
+  script = t;
+  marks = ms;
+  count = n;
+  tag = tag;
+  shaped = b;
+  vars = vars;
+  spot = s;
+  status = st;
+}
+
+abbrev pub runAt : Stage → Run
+runAt g = runWith (cellsOf (g .vars)) (g .spot) (g .status)
+
+abbrev pub stepAt : Stage → Control → Offer → Step
+stepAt g c o = stepKnown (g .shaped) (itemsOf (g .script)) (runAt g) c o
+
+-- what is known where a turn begins
+pub record Turning (g : Stage) : Type 0 where
+  pub full : length (g .script .items) ≡ 128
+  pub marked : Marked (itemsOf (g .script)) (g .marks)
+  pub count : g .count ≡ least (g .script .count) 128
+  pub tag : g .tag ≡ tagIn (g .marks) (g .count)
+  pub known : Known (g .shaped) (g .size) (g .script) (runAt g)
+  pub row : length (g .vars) ≡ 32
+  pub wide : length (g .spot .boxes) ≡ 8
+
+-- by the calls before the first turn
+pub turning-by : {size : ℕ} {t : Script} {v : Survey} {n tag : ℕ} (m : State) (s : Spot) (ok : Bool)
+    → Surveyed size t v
+    → length (t .items) ≡ 128 → length (m .vars) ≡ 32 → length (m .boxes) ≡ 8 → n ≡ least (t .count) 128
+    → Seen (v .marks .at) (λ xs. length xs ≡ n → ok ≡ runOk xs (runOf m)) → tag ≡ tagIn (v .marks .at) n
+    → (runWith (cellsOf (m .vars)) s (m .status) ≡ runOf m) × (s .boxes ≡ m .boxes)
+    → Turning (stage size t (v .marks .at) n tag (v .shaped && ok) (m .vars) s (m .status))
+turning-by {size} {t} {v} {n} {tag} m s ok survey full row wide count judged tagged stands =
+    let seen = marked t (v .marks) full (survey .marks) in
+    record {
+      full = full;
+      marked = seen;
+      count = count;
+      tag = tagged;
+      known =
+          known-by size t (runOf m) (v .marks .at) (v .shaped) ok n full seen (survey .shaped) judged count
+          ∙ ap (λ (z : Run). inShape size t && runOk (itemsOf t) z) (sym (stands .0));
+      row = row;
+      wide = ap length (stands .1) ∙ wide;
+    }
+
+-- the item x where the run stands is read with its cells k, and its mates before j are tried
+pub record Trying (g : Stage) (c : Control) (o : Offer) (x : Item) (k : Cells) (found : Tried) (j : ℕ) : Type 0 where
+  pub head : Turning g
+  pub item : x ≡ (getD (g .script .items) (least (g .spot .at) 127) noSlot) .item
+  pub cells : k
+      ≡ effects.cellsOf (effects.operandsOf x) (getD (g .vars) (effects.placeOf (effects.operandsOf x .a)) noVar)
+      (getD (g .vars) (effects.placeOf (effects.operandsOf x .b)) noVar)
+      (getD (g .vars) (effects.placeOf (effects.operandsOf x .c)) noVar)
+      (getD (g .vars) (effects.placeOf (effects.operandsOf x .d)) noVar)
+  pub same : triedBy found (mates (itemsOf (g .script)) (cellsOf (g .vars)) (g .spot .at) j)
+      ≡ triedBy (effects.tryFirst x k (g .spot .at))
+      (mates (itemsOf (g .script)) (cellsOf (g .vars)) (g .spot .at) (g .spot .at))
+
+abbrev pub stageOf : {g : Stage} {c : Control} {o : Offer} {x : Item} {k : Cells} {found : Tried} {j : ℕ}
+    → Trying g c o x k found j
+    → Stage
+stageOf {g} w = g
+
+pub trying-starts : {g : Stage} {c : Control} {o : Offer} {here : ℕ} {ops : Operands} {l : Places} {k : Cells}
+    {found : Tried} → Turning g → here ≡ least (g .spot .at) 127
+    → ops ≡ effects.operandsOf ((getD (g .script .items) here noSlot) .item) → l ≡ effects.placesOf ops
+    → k ≡ effects.cellsOf ops (getD (g .vars) (l .a) noVar) (getD (g .vars) (l .b) noVar)
+    (getD (g .vars) (l .c) noVar) (getD (g .vars) (l .d) noVar)
+    → found ≡ effects.tryFirst ((getD (g .script .items) here noSlot) .item) k (g .spot .at)
+    → Trying g c o ((getD (g .script .items) here noSlot) .item) k found (g .spot .at)
+trying-starts {g} {c} {o} {here} {ops} {l} {k} {found} w h e f q r = record {
+  head = w;
+  item = ap (λ (n : ℕ). (getD (g .script .items) n noSlot) .item) h;
+  cells = cells-by (g .vars) ((getD (g .script .items) here noSlot) .item) ops l k e f q;
+  same =
+      ap (λ (z : Tried). triedBy z (mates (itemsOf (g .script)) (cellsOf (g .vars)) (g .spot .at) (g .spot .at))) r;
+}
+
+module _ {g : Stage} {c : Control} {o : Offer} {x : Item} {k : Cells} {found : Tried} {j : ℕ}
+    (w : Trying g c o x k found j) {b : Bool} (on : b ≡ effects.triesOn found j (g .count)) where
+  pub mate-below : b ≡ true → (j < g .count) × (j < 128)
+  mate-below y =
+      let q : j < g .count = goes-on found j (g .count) (sym on ∙ y) .1 in
+      (q, omega (arith, q, w .head .count, least-most (g .script .count) 128))
+
+  -- one turn of the loop: the mate at j is read and tried
+  pub trying-on : {ops : Operands} {l : Places} {k′ : Cells} {found′ : Tried} → b ≡ true
+      → ops ≡ effects.operandsOf ((getD (g .script .items) j noSlot) .item) → l ≡ effects.placesOf ops
+      → k′ ≡ effects.cellsOf ops (getD (g .vars) (l .a) noVar) (getD (g .vars) (l .b) noVar)
+      (getD (g .vars) (l .a) noVar) (getD (g .vars) (l .b) noVar)
+      → Seen (g .marks) (λ xs. (vs : Vars) (r : rules.Chosen)
+      → itemAt xs j ≡ (getD (g .script .items) j noSlot) .item → j < 128
+      → operandCell vs (effects.operandsOf ((getD (g .script .items) j noSlot) .item) .a) ≡ k′ .a
+      → operandCell vs (effects.operandsOf ((getD (g .script .items) j noSlot) .item) .b) ≡ k′ .b
+      → triedBy found′ r ≡ triedAt xs vs (g .spot .at) j r)
+      → Trying g c o x k found′ (j + 1)
+  trying-on {ops} {l} {k′} {found′} y e f q tried =
+      let below : j < length (itemsOf (g .script)) =
+      rw (count-is (g .script) (w .head .full), ← (w .head .count)) (mate-below y .0) in
+      let two = two-by (g .vars) ((getD (g .script .items) j noSlot) .item) ops l k′ (w .head .row) e f q in
+      record {
+        head = w .head;
+        item = w .item;
+        cells = w .cells;
+        same =
+            tried-more found found′ (itemsOf (g .script)) (cellsOf (g .vars)) (g .spot .at) j
+            (triedBy (effects.tryFirst x k (g .spot .at))
+            (mates (itemsOf (g .script)) (cellsOf (g .vars)) (g .spot .at) (g .spot .at)))
+            (goes-on found j (g .count) (sym on ∙ y) .0) below
+            (λ r. tried (itemsOf (g .script)) (w .head .marked) (cellsOf (g .vars)) r
+            (item-here (g .script) (w .head .full) j below) (mate-below y .1) (two .0) (two .1))
+            (w .same);
+      }
+
+-- the effect e, applied to the run, is the step
+pub record Effected (g : Stage) (c : Control) (o : Offer) (e : Effect) : Type 0 where
+  pub head : Turning g
+  pub is : stepOf (leaveOuts (itemsOf (g .script)) (openAt (g .spot))) (cellsOf (g .vars)) e ≡ stepAt g c o
+  pub deep : e .leaves ≡ true → g .spot .depth ≤ 8
+
+abbrev pub EffectedBy : {g : Stage} {c : Control} {o : Offer} {x : Item} {k : Cells} {found : Tried} {j : ℕ}
+    → Trying g c o x k found j → Effect
+    → Type 0
+EffectedBy {g} {c} {o} w e = Effected g c o e
+
+-- no mate is left to try, and the marks around are known
+module _ {g : Stage} {c : Control} {o : Offer} {x : Item} {k : Cells} {found : Tried} {j : ℕ}
+    (w : Trying g c o x k found j) {b : Bool} (on : b ≡ effects.triesOn found j (g .count)) (ended : b ≡ false)
+    {to : Chosen} (chosen : to ≡ effects.chosenBy found) (a : Around)
+    (around : g .spot .depth ≤ 8
+    → Seen (g .marks) (λ xs. (a .sweeping ≡ anyOpen isSweep xs (openAt (g .spot)))
+    × (itemAt xs (g .spot .at) ≡ x → Surrounds xs (g .spot) x a))) where
+  abbrev looks-at : Looked
+  looks-at = record { item = x; cells = k; chosen = to; tag = g .tag; count = g .count; around = a }
+
+  all-counted : g .count ≡ length (itemsOf (g .script))
+  all-counted = w .head .count ∙ sym (count-is (g .script) (w .head .full))
+
+  looks-here : g .spot .depth ≤ 8 → g .spot .at < length (itemsOf (g .script))
+      → Here (itemsOf (g .script)) (cellsOf (g .vars)) (g .spot) looks-at
+  looks-here d q =
+      let item : itemAt (itemsOf (g .script)) (g .spot .at) ≡ x =
+      item-clamped (g .script) (w .head .full) (g .spot .at) q ∙ sym (w .item) in
+      let read = rw (← (w .cells)) at (reads-all (g .vars) (w .head .row) (effects.operandsOf x)) in
+      record {
+        item = item;
+        read = read;
+        chosen =
+            ap chosenOf chosen
+            ∙ tried-all found (itemsOf (g .script)) (cellsOf (g .vars)) (g .spot .at) j (g .count) (sym on ∙ ended)
+            (omega (arith, all-counted))
+            ∙ w .same
+            ∙ first-tried (itemsOf (g .script)) (cellsOf (g .vars)) (g .spot) x k
+            (omega (arith, items-few (g .script) (w .head .full))) read;
+        around = around d (itemsOf (g .script)) (w .head .marked) .1 item;
+      }
+
+  looks-up : g .spot .depth ≤ 8 → LooksUp (itemsOf (g .script)) (cellsOf (g .vars)) (g .spot) looks-at
+  looks-up d = record {
+    few = items-few (g .script) (w .head .full);
+    deep = d;
+    wide = w .head .wide;
+    count = all-counted;
+    tag = w .head .tag ∙ tag-is (itemsOf (g .script)) (g .marks) (w .head .marked) (g .count) all-counted;
+    sweeping = around d (itemsOf (g .script)) (w .head .marked) .0;
+    here = looks-here d;
+  }
+
+  in-shape : g .shaped ≡ true → g .spot .depth ≤ 8
+  in-shape =
+      known-deep (g .size) (g .script) (g .vars) (g .spot) (g .status) (g .shaped) (w .head .full) (w .head .known)
+
+  pub effected : {e : Effect} → e ≡ effects.effectOf (g .shaped) (g .spot) (g .status) looks-at c o → Effected g c o e
+  effected {e} q = record {
+    head = w .head;
+    is = rw q (effect-is (itemsOf (g .script)) (cellsOf (g .vars)) (g .spot) looks-at c o (g .shaped) (g .status)
+        (λ z. looks-up (in-shape z)));
+    deep = leaves-deep (g .shaped) (g .spot) (g .status) looks-at c o e in-shape q;
+  }

@@ -1,23 +1,21 @@
 -- What is looked up of table, marks and names for one step.
 use Prim.Native.Nat.{ℕ, zero, suc, _+_, _-_, _≤_, _<_}
 use mathlib.Core.Path.{_≡_, refl, sym, ap, _∙_}
-use mathlib.Core.Bool.{Bool, true, false, _&&_, cond}
+use mathlib.Core.Bool.{Bool, true, false, cond}
 use mathlib.Core.List.{List, [], _∷_}
-use mathlib.Core.Option.{Option, none, some}
-use native.Mathlib.Nat.{not-suc-le-zero, le-of-suc-le-suc, add-suc, suc-add, add-zero}
+use native.Mathlib.Nat.{not-suc-le-zero, le-of-suc-le-suc}
 use native.Mathlib.Numerals.{add-one}
 use native.Mathlib.Omega.{arith}
 use lib.Dec.{ltb, leb}
 use lib.ListN.{length, getD, set, drop, length-set}
-use borrow.Author.Tests.{lt-ltb, le-leb, lt-leb, leb-true, leb-false, ltb-true, ltb-false}
+use borrow.Author.Tests.{le-leb, leb-true, leb-false, ltb-true, ltb-false}
 use Rattle.table.specs.declared.Condition.{Condition}
 use Rattle.table.specs.declared.Operand.{Operand}
-use Rattle.table.specs.declared.Operand.the-variants.{Name as name, Literal as literal}
-use Rattle.table.specs.declared.Branch.the-variants.{ElseIf as elseif, Else as else}
-use Rattle.table.specs.declared.Head.the-variants.{If as if', Loop as loop, Sweep as sweep}
+use Rattle.table.specs.declared.Operand.the-variants as Operand
+use Rattle.table.specs.declared.Branch.the-variants as Branch
+use Rattle.table.specs.declared.Head.the-variants as Head
 use Rattle.table.specs.declared.Item.{Item}
-use Rattle.table.specs.declared.Item.the-variants.{Act as act, Pack as pack, Open as opens, Branch as branch}
-use Rattle.table.specs.declared.Item.the-variants.{Close as closes, Break as breakloop, Tag as tag}
+use Rattle.table.specs.declared.Item.the-variants as Item
 use Rattle.table.specs.declared.Slot.{Slot}
 use Rattle.table.specs.declared.Script.{Script}
 use Rattle.table.specs.Item.{isTag}
@@ -25,24 +23,25 @@ use Rattle.table.specs.Uses.{lowest, missing, wrong, conditionUses}
 use Rattle.table.specs.Shape.{itemsIn, itemsOf, noSlot}
 use Rattle.mates.specs.declared.Mark.{Mark}
 use Rattle.mates.specs.Mates.{itemAt, boxesAt}
-use Rattle.mates.specs.Code.{Marked, noMark, tagsRole, tagWithin, tagIn}
+use Rattle.mates.specs.Code.{Marked, tagWithin, tagIn}
 use Rattle.mates.proofs.Placed.{tag-seen}
 use Rattle.state.specs.State.{Vars, cellAt, holds, written, kindNow}
 use Rattle.state.specs.Meaning.{cellsOf}
 use Rattle.state.proofs.Names.{noVar, vars-get, vars-set, vars-length}
 use Rattle.effect.specs.Code as effects
+use Rattle.effect.specs.declared.Effect.{Effect}
+use Rattle.effect.specs.declared.Places.{Places}
 use Rattle.effect.specs.declared.Spot.{Spot}
 use Rattle.effect.specs.declared.Write.{Write}
-use Rattle.effect.specs.declared.Write.the-variants.{Nothing as noWrite, Put as puts}
+use Rattle.effect.specs.declared.Write.the-variants as Write
 use Rattle.effect.specs.declared.Operands.{Operands}
 use Rattle.effect.specs.declared.Cells.{Cells}
-use Rattle.effect.specs.declared.Around.{Around}
-use Rattle.effect.specs.declared.Looked.{Looked}
 use Rattle.effect.specs.declared.Tried.{Tried}
-use Rattle.effect.specs.declared.Tried.the-variants.{Go as goes, Next as onward}
-use Rattle.machine.specs.Words.{Cell, unwritten, Var}
+use Rattle.effect.specs.declared.Tried.the-variants as Tried
+use Rattle.state.specs.declared.Cell.the-variants as Cell
+use Rattle.machine.specs.Words.{Cell, Var}
 use Rattle.machine.specs.Machine as rules
-use Rattle.machine.specs.Machine.{choose, tried, tagFrom, readFaults}
+use Rattle.machine.specs.Machine.{choose, tried, tagFrom}
 use Rattle.machine.specs.Code.{wrote, operandCell, Reads, chosenOf, triedBy, triedAt, chosenAt, liveRun, orLast}
 use Rattle.machine.specs.Code.{least}
 use Rattle.machine.proofs.Chain.{item-is, count-items, choose-more, choose-none}
@@ -54,7 +53,7 @@ no e = let z : _≡_ {A = ℕ} 0 1 = cc in absurd (omega arith)
 
 -- ---- the row of names
 
-past-row : (l : List Var) (n : ℕ) → length l ≤ n → cellAt (cellsOf l) n ≡ unwritten
+past-row : (l : List Var) (n : ℕ) → length l ≤ n → cellAt (cellsOf l) n ≡ Cell.Unwritten
 past-row [] n h = refl
 past-row (v ∷ l) zero h = absurd (not-suc-le-zero h)
 past-row (v ∷ l) (suc n) h = past-row l n (le-of-suc-le-suc h)
@@ -77,17 +76,31 @@ row-below n = go (ltb n 32) refl
     go false e = omega arith
 
 pub place-below : (x : Operand) → effects.placeOf x < 32
-place-below (name n) = row-below n
-place-below (literal l) = omega arith
+place-below (Operand.Name n) = row-below n
+place-below (Operand.Literal l) = omega arith
 
 pub write-below : (w : Write) → effects.writePlace w < 32
-write-below noWrite = omega arith
-write-below (puts n c) = row-below n
+write-below Write.Nothing = omega arith
+write-below (Write.Put n c) = row-below n
+
+-- places in the row
+pub record Below (l : Places) : Type 0 where
+  pub a : l .a < 32
+  pub b : l .b < 32
+  pub c : l .c < 32
+  pub d : l .d < 32
+
+pub places-below : (o : Operands) {l : Places} → l ≡ effects.placesOf o → Below l
+places-below o e =
+    rw e (record { a = place-below (o .a); b = place-below (o .b); c = place-below (o .c); d = place-below (o .d) })
+
+pub written-below : (w : Write) {p : ℕ} → p ≡ effects.writePlace w → p < 32
+written-below w e = rw e (write-below w)
 
 module _ (l : List Var) (h : length l ≡ 32) where
   fetched : (x : Operand) → operandCell (cellsOf l) x ≡ effects.cellOf x (getD l (effects.placeOf x) noVar)
-  fetched (literal v) = refl
-  fetched (name n) = go (ltb n 32) refl
+  fetched (Operand.Literal v) = refl
+  fetched (Operand.Name n) = go (ltb n 32) refl
     where
       go : (b : Bool) → ltb n 32 ≡ b → cellAt (cellsOf l) n ≡ effects.cellIn n (getD l (effects.inRow n) noVar)
       go true e = rw e (vars-get l n)
@@ -111,8 +124,8 @@ module _ (l : List Var) (h : length l ≡ 32) where
   pub stored : (w : Write)
       → cellsOf (set l (effects.writePlace w) (effects.writeOver w (getD l (effects.writePlace w) noVar))) ≡ wrote w
       (cellsOf l)
-  stored noWrite = ap cellsOf (set-same l 0)
-  stored (puts n c) = go (ltb n 32) refl
+  stored Write.Nothing = ap cellsOf (set-same l 0)
+  stored (Write.Put n c) = go (ltb n 32) refl
     where
       go : (b : Bool) → ltb n 32 ≡ b
           → cellsOf (set l (effects.inRow n) (effects.putIn n c (getD l (effects.inRow n) noVar))) ≡ set (cellsOf l) n c
@@ -196,7 +209,7 @@ module _ (xs : List Item) (ms : List Mark) (k : Marked xs ms) where
 module _ (vs : Vars) (k : Cells) (j : ℕ) (h : j < 128) where
   condition-tried : (c : Condition) (r : rules.Chosen) → operandCell vs (c .left) ≡ k .a
       → operandCell vs (c .right) ≡ k .b
-      → triedBy (effects.tryCondition c k j) r ≡ tried vs (branch (elseif c)) j r
+      → triedBy (effects.tryCondition c k j) r ≡ tried vs (Item.Branch (Branch.ElseIf c)) j r
   condition-tried c r e f =
       rw (missing-two vs k c e f, wrong-two vs k c e f, holds-two vs k c e f)
       (go (missing (written vs) (conditionUses c)) (wrong (kindNow vs) (conditionUses c)) (holds vs c))
@@ -211,28 +224,28 @@ module _ (vs : Vars) (k : Cells) (j : ℕ) (h : j < 128) where
   pub tried-is : (x : Item) (r : rules.Chosen) → operandCell vs (effects.operandsOf x .a) ≡ k .a
       → operandCell vs (effects.operandsOf x .b) ≡ k .b
       → triedBy (effects.tryMate x k j) r ≡ tried vs x j r
-  tried-is (act a) r e f = refl
-  tried-is (pack p) r e f = refl
-  tried-is (opens a) r e f = refl
-  tried-is (branch (elseif c)) r e f = condition-tried c r e f
-  tried-is (branch else) r e f = rw (after-is j h)
-  tried-is (closes a) r e f = rw (after-is j h)
-  tried-is breakloop r e f = refl
-  tried-is tag r e f = refl
+  tried-is (Item.Act a) r e f = refl
+  tried-is (Item.Pack p) r e f = refl
+  tried-is (Item.Open a) r e f = refl
+  tried-is (Item.Branch (Branch.ElseIf c)) r e f = condition-tried c r e f
+  tried-is (Item.Branch Branch.Else) r e f = rw (after-is j h)
+  tried-is (Item.Close a) r e f = rw (after-is j h)
+  tried-is Item.Break r e f = refl
+  tried-is Item.Tag r e f = refl
 
 abbrev pub mates : List Item → Vars → ℕ → ℕ → rules.Chosen
 mates xs vs p j = choose vs p j (boxesAt xs j) (drop j xs)
 
-pub goes-on : (f : Tried) (j n : ℕ) → effects.triesOn f j n ≡ true → (f ≡ onward) × (j < n)
-goes-on (goes c) j n e = no e
-goes-on onward j n e = (refl, ltb-true j n e)
+pub goes-on : (f : Tried) (j n : ℕ) → effects.triesOn f j n ≡ true → (f ≡ Tried.Next) × (j < n)
+goes-on (Tried.Go c) j n e = no e
+goes-on Tried.Next j n e = (refl, ltb-true j n e)
 
 pub tried-all : (f : Tried) (xs : List Item) (vs : Vars) (p j n : ℕ) → effects.triesOn f j n ≡ false → length xs ≤ n
     → chosenOf (effects.chosenBy f) ≡ triedBy f (mates xs vs p j)
-tried-all (goes c) xs vs p j n e h = refl
-tried-all onward xs vs p j n e h = sym (choose-none xs vs p j (omega (arith, ltb-false j n e)))
+tried-all (Tried.Go c) xs vs p j n e h = refl
+tried-all Tried.Next xs vs p j n e h = sym (choose-none xs vs p j (omega (arith, ltb-false j n e)))
 
-pub tried-more : (f g : Tried) (xs : List Item) (vs : Vars) (p j : ℕ) (r : rules.Chosen) → f ≡ onward → j < length xs
+pub tried-more : (f g : Tried) (xs : List Item) (vs : Vars) (p j : ℕ) (r : rules.Chosen) → f ≡ Tried.Next → j < length xs
     → ((o : rules.Chosen) → triedBy g o ≡ triedAt xs vs p j o)
     → triedBy f (mates xs vs p j) ≡ r → triedBy g (mates xs vs p (j + 1)) ≡ r
 tried-more f g xs vs p j r e h q w =
@@ -242,21 +255,21 @@ tried-more f g xs vs p j r e h q w =
 pub first-tried : (xs : List Item) (vs : Vars) (s : Spot) (x : Item) (k : Cells) → s .at < 128
     → Reads vs (effects.operandsOf x) k
     → triedBy (effects.tryFirst x k (s .at)) (mates xs vs (s .at) (s .at)) ≡ chosenAt xs (liveRun vs s) x
-first-tried xs vs s (act a) k h r = refl
-first-tried xs vs s (pack p) k h r = refl
-first-tried xs vs s (opens (if' c)) k h r = rw (holds-two vs k c (r .first) (r .second)) (go (holds vs c))
+first-tried xs vs s (Item.Act a) k h r = refl
+first-tried xs vs s (Item.Pack p) k h r = refl
+first-tried xs vs s (Item.Open (Head.If c)) k h r = rw (holds-two vs k c (r .first) (r .second)) (go (holds vs c))
   where
     go : (b : Bool)
         → triedBy (effects.tryHolding b (s .at)) (mates xs vs (s .at) (s .at)) ≡ cond b (rules.into (suc (s .at)))
         (mates xs vs (s .at) (s .at))
     go true = rw (after-is (s .at) h)
     go false = refl
-first-tried xs vs s (opens (loop c)) k h r = refl
-first-tried xs vs s (opens (sweep w)) k h r = refl
-first-tried xs vs s (branch b) k h r = refl
-first-tried xs vs s (closes e) k h r = refl
-first-tried xs vs s breakloop k h r = refl
-first-tried xs vs s tag k h r = refl
+first-tried xs vs s (Item.Open (Head.Loop c)) k h r = refl
+first-tried xs vs s (Item.Open (Head.Sweep w)) k h r = refl
+first-tried xs vs s (Item.Branch b) k h r = refl
+first-tried xs vs s (Item.Close e) k h r = refl
+first-tried xs vs s Item.Break k h r = refl
+first-tried xs vs s Item.Tag k h r = refl
 
 -- both writes of an effect
 pub stored-both : (l : List Var) (v w : Write) (p q : ℕ) (x y : Var) → length l ≡ 32 → p ≡ effects.writePlace v
@@ -268,3 +281,21 @@ stored-both l v w p q x y h e f g k =
     let b : cellsOf (set (set l p x) q y) ≡ wrote w (cellsOf (set l p x)) =
     rw (k, g) (stored (set l p x) (length-set l p x ∙ h) w) in
     b ∙ ap (λ (z : Vars). wrote w z) a
+
+-- the names after an effect
+pub record Written (vars : List Var) (e : Effect) (after : List Var) : Type 0 where
+  pub row : length after ≡ 32
+  pub cells : cellsOf after ≡ wrote (e .second) (wrote (e .first) (cellsOf vars))
+
+-- x is put at p, then y at q
+abbrev pub TwoWritten : List Var → Effect → ℕ → Var → ℕ → Var → Type 0
+TwoWritten l e p x q y = Written l e (set (set l p x) q y)
+
+pub both-written : {vars : List Var} {e : Effect} {p q : ℕ} {x y : Var} → length vars ≡ 32
+    → p ≡ effects.writePlace (e .first) → x ≡ effects.writeOver (e .first) (getD vars p noVar)
+    → q ≡ effects.writePlace (e .second) → y ≡ effects.writeOver (e .second) (getD (set vars p x) q noVar)
+    → TwoWritten vars e p x q y
+both-written {vars} {e} {p} {q} {x} {y} h ep ex eq ey = record {
+  row = length-set (set vars p x) q y ∙ length-set vars p x ∙ h;
+  cells = stored-both vars (e .first) (e .second) p q x y h ep ex eq ey;
+}
