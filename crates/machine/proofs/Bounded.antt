@@ -10,6 +10,7 @@ use lib.Ieee.{Float}
 use lib.Dec.{eqb, ltb, leb}
 use lib.ListN.{length, set, drop, length-drop, drop-of-length-le}
 use borrow.Author.Tests.{ltb-true, ltb-false}
+pub use Rattle.laws.proofs.Bools.{and-t}
 use Rattle.value.specs.declared.Calculated.{Calculated}
 use Rattle.value.specs.declared.Calculated.the-variants as Calculated
 use Rattle.value.specs.declared.Operation.{Operation}
@@ -30,9 +31,6 @@ use Rattle.machine.specs.Machine.{Chosen, into, beyond, bad, orBad, read
 use Rattle.machine.specs.Machine.{inside, isNone, opensOk}
 use Rattle.machine.specs.Code.{ninth, boxOk}
 use Rattle.machine.proofs.Shapes.{and-l, and-r, room}
-
-pub and-t : (a b : Bool) → a ≡ true → b ≡ true → (a && b) ≡ true
-and-t a b p q = rw p q
 
 -- ---- places
 
@@ -102,7 +100,7 @@ pub cells-set : (vs : Vars) (n : ℕ) (c : Cell) → cellsOk vs ≡ true → cel
 cells-set [] n c e f = e
 cells-set (v ∷ vs) zero c e f = rw f (and-r (cellOk v) (cellsOk vs) e)
 cells-set (v ∷ vs) (suc n) c e f =
-    and-t (cellOk v) (cellsOk (set vs n c)) (and-l (cellOk v) (cellsOk vs) e)
+    and-t (and-l (cellOk v) (cellsOk vs) e)
     (cells-set vs n c (and-r (cellOk v) (cellsOk vs) e) f)
 
 pub cell-at : (vs : Vars) (n : ℕ) → cellsOk vs ≡ true → cellOk (cellAt vs n) ≡ true

@@ -22,7 +22,6 @@ use Rattle.mates.specs.Mates.{fitsTop, scan, scanAll, belongs, closeFrom, itemA
 use Rattle.rules.specs.Check.{State, kindsOf, isEmpty, misplaced, refusals, refusalsAtEnd, Verdict, accepted}
 use Rattle.rules.specs.Check.{refused, orGo, walk, atLine, walked, verdict}
 use Rattle.rules.specs.Mated.{isFound, Mated}
-use Rattle.rules.proofs.Forms.{no}
 use Rattle.rules.proofs.Rows.{no-refusal, no-refusal-at-end}
 use Rattle.rules.proofs.Placed.{Box, Placed, atStart, placed, plains, bare, after, same-walk}
 
