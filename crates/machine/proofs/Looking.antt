@@ -1,4 +1,4 @@
--- One turn: what the calls of a step said, and that it is 01's step.
+-- One turn up to its effect: what its calls said, place by place, and that the effect is 01's step.
 use Prim.Native.Nat.{ℕ, _+_, _-_, _≤_, _<_}
 use mathlib.Core.Path.{_≡_, refl, sym, ap, _∙_}
 use mathlib.Core.Bool.{Bool, true, false, _&&_}
@@ -97,7 +97,7 @@ two-by : (vars : List Var) (x : Item) (o : Operands) (p : Places) (k : Cells) �
 two-by vars x o p k h e f g =
     rw (g, f, e) (reads-first vars h (effects.operandsOf x), reads-second vars h (effects.operandsOf x))
 
--- ---- one turn, place by place
+-- ---- where a turn begins
 
 abbrev pub Known : Bool → ℕ → Script → Run → Type 0
 Known b size t m = b ≡ (inShape size t && runOk (itemsOf t) m)
@@ -163,6 +163,8 @@ turning-by {size} {t} {v} {n} {tag} m s ok survey full row wide count judged tag
       row = row;
       wide = ap length (stands .1) ∙ wide;
     }
+
+-- ---- the mates that are tried
 
 -- the item x where the run stands is read with its cells k, and its mates before j are tried
 pub record Trying (g : Stage) (c : Control) (o : Offer) (x : Item) (k : Cells) (found : Tried) (j : ℕ) : Type 0 where
@@ -232,6 +234,8 @@ module _ {g : Stage} {c : Control} {o : Offer} {x : Item} {k : Cells} {found : T
             (item-here (g .script) (w .head .full) j below) (mate-below y .1) (two .0) (two .1))
             (w .same);
       }
+
+-- ---- the effect
 
 -- the effect e, applied to the run, is the step
 pub record Effected (g : Stage) (c : Control) (o : Offer) (e : Effect) : Type 0 where

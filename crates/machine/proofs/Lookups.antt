@@ -245,7 +245,8 @@ pub tried-all : (f : Tried) (xs : List Item) (vs : Vars) (p j n : ℕ) → effec
 tried-all (Tried.Go c) xs vs p j n e h = refl
 tried-all Tried.Next xs vs p j n e h = sym (choose-none xs vs p j (omega (arith, ltb-false j n e)))
 
-pub tried-more : (f g : Tried) (xs : List Item) (vs : Vars) (p j : ℕ) (r : rules.Chosen) → f ≡ Tried.Next → j < length xs
+pub tried-more : (f g : Tried) (xs : List Item) (vs : Vars) (p j : ℕ) (r : rules.Chosen) → f ≡ Tried.Next
+    → j < length xs
     → ((o : rules.Chosen) → triedBy g o ≡ triedAt xs vs p j o)
     → triedBy f (mates xs vs p j) ≡ r → triedBy g (mates xs vs p (j + 1)) ≡ r
 tried-more f g xs vs p j r e h q w =
