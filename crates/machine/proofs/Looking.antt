@@ -6,6 +6,7 @@ use mathlib.Core.List.{List, _++_}
 use native.Mathlib.Omega.{arith}
 use lib.ListN.{length, getD, take, length-append}
 use lib.Seq.{length-take-le}
+use Rattle.laws.proofs.Bools.{no′}
 use Rattle.table.specs.declared.Item.{Item}
 use Rattle.table.specs.declared.Script.{Script}
 use Rattle.table.specs.Item.{isSweep}
@@ -41,9 +42,6 @@ use Rattle.machine.proofs.Lookups.{reads-all, reads-first, reads-second
 use Rattle.machine.proofs.Lookups.{items-few, item-clamped, tag-is, goes-on, tried-more, item-here, least-most}
 use Rattle.machine.proofs.Shapes.{and-r, shape-stands}
 
-no : {X : Type 0} → false ≡ true → X
-no e = let z : _≡_ {A = ℕ} 0 1 = cc in absurd (omega arith)
-
 -- a run whose table and state are in shape has at most eight open boxes
 known-deep : (size : ℕ) (t : Script) (vars : List Var) (s : Spot) (st : Status) (b : Bool) → length (t .items) ≡ 128
     → b ≡ (inShape size t && runOk (itemsOf t) (runWith (cellsOf vars) s st)) → b ≡ true → s .depth ≤ 8
@@ -57,7 +55,7 @@ leaves-deep : (b : Bool) (s : Spot) (st : Status) (k : Looked) (c : Control) (o 
     → (b ≡ true → s .depth ≤ 8)
     → e ≡ effects.effectOf b s st k c o → e .leaves ≡ true → s .depth ≤ 8
 leaves-deep true s st k c o e d q z = d refl
-leaves-deep false s st k c o e d q z = no (sym (ap (λ (x : Effect). x .leaves) q) ∙ z)
+leaves-deep false s st k c o e d q z = no′ (sym (ap (λ (x : Effect). x .leaves) q) ∙ z)
 
 -- how many things were laid
 pub laid-count : (n h₀ h : ℕ) (hs hs₀ : List Thing) (os : List Out) → length hs₀ ≡ n → h₀ ≤ n → h ≤ n

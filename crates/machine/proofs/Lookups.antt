@@ -9,6 +9,7 @@ use native.Mathlib.Omega.{arith}
 use lib.Dec.{ltb, leb}
 use lib.ListN.{length, getD, set, drop, length-set}
 use borrow.Author.Tests.{le-leb, leb-true, leb-false, ltb-true, ltb-false}
+use Rattle.laws.proofs.Bools.{no′}
 use Rattle.table.specs.declared.Condition.{Condition}
 use Rattle.table.specs.declared.Operand.{Operand}
 use Rattle.table.specs.declared.Operand.the-variants as Operand
@@ -47,9 +48,6 @@ use Rattle.machine.specs.Code.{least}
 use Rattle.machine.proofs.Chain.{item-is, count-items, choose-more, choose-none}
 use Rattle.machine.proofs.Effecting.{after-is, missing-two, wrong-two, holds-two}
 use Rattle.machine.proofs.Stepping.{tag-hit, tag-miss, tag-none}
-
-no : {X : Type 0} → false ≡ true → X
-no e = let z : _≡_ {A = ℕ} 0 1 = cc in absurd (omega arith)
 
 -- ---- the row of names
 
@@ -237,7 +235,7 @@ abbrev pub mates : List Item → Vars → ℕ → ℕ → rules.Chosen
 mates xs vs p j = choose vs p j (boxesAt xs j) (drop j xs)
 
 pub goes-on : (f : Tried) (j n : ℕ) → effects.triesOn f j n ≡ true → (f ≡ Tried.Next) × (j < n)
-goes-on (Tried.Go c) j n e = no e
+goes-on (Tried.Go c) j n e = no′ e
 goes-on Tried.Next j n e = (refl, ltb-true j n e)
 
 pub tried-all : (f : Tried) (xs : List Item) (vs : Vars) (p j n : ℕ) → effects.triesOn f j n ≡ false → length xs ≤ n
