@@ -1,7 +1,7 @@
 -- An effect is 01's step: for every item, for an abort, for the end of the items and for a run that has ended.
 use Prim.Native.Nat.{ℕ, zero, suc, _≤_, _<_}
 use mathlib.Core.Path.{_≡_, refl, sym, ap, _∙_}
-use mathlib.Core.Bool.{Bool, true, false, not, _&&_, _||_, cond, true≢false, false≢true}
+use mathlib.Core.Bool.{Bool, true, false, not, _&&_, _||_, cond, true≢false, false≢true, and-true}
 use mathlib.Core.List.{List, [], _∷_}
 use mathlib.Core.Option.{Option, none, some}
 use native.Mathlib.Omega.{arith}
@@ -28,7 +28,6 @@ use Rattle.state.specs.declared.What.the-variants as What
 use Rattle.state.specs.State as states
 use Rattle.state.specs.State.{Vars, Out, Run, Step, said, goto, unskip, cleared, outer}
 use Rattle.state.specs.Meaning.{tops}
-use Rattle.state.proofs.Tests.{and-yes}
 use Rattle.effect.specs.declared.Chosen.{Chosen}
 use Rattle.effect.specs.declared.Chosen.the-variants as Chosen
 use Rattle.effect.specs.declared.Effect.{Effect}
@@ -105,12 +104,12 @@ module _ {xs : List Item} {vs : Vars} {s : Spot} {k : Looked} (os : List Out) (l
   branches : (y : Item) (e : ℕ) → s .depth ≡ suc e → k .around .close ≡ closeTop xs (openAt s)
       → stepOf os vs (effects.runs (effects.leaveTo s (effects.below (s .depth)) (k .around .close) false)) ≡
       rules.runBranch xs run (openAt s)
-  branches y e f h = rw (h, f, below-is e, and-yes (s .skip))
+  branches y e f h = rw (h, f, below-is e, and-true (s .skip))
 
   ends-if : (e : ℕ) → s .depth ≡ suc e
       → stepOf os vs (effects.runs (effects.leaveTo s (effects.below (s .depth)) (effects.after (s .at)) false)) ≡
       rules.runClose xs run Close.EndIf (openAt s)
-  ends-if e f = rw (f, below-is e, after-is (s .at) within, and-yes (s .skip))
+  ends-if e f = rw (f, below-is e, after-is (s .at) within, and-true (s .skip))
 
   -- where an endloop leads: out of its box, or back to its head
   abbrev ways : Bool → ℕ → ℕ → Effect

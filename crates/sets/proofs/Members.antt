@@ -1,7 +1,7 @@
 -- What is read and what is written, as sets. Assumes nothing.
 use Prim.Native.Nat.{ℕ, zero, suc, _≤_, _<_}
 use mathlib.Core.Path.{_≡_, refl, sym, ap, _∙_}
-use mathlib.Core.Bool.{Bool, true, false, not, _&&_, _||_}
+use mathlib.Core.Bool.{Bool, true, false, not, _&&_, _||_, or-false}
 use mathlib.Core.List.{List, [], _∷_}
 use native.Mathlib.Omega.{arith}
 use native.Mathlib.Nat.{not-suc-le-zero, le-of-suc-le-suc}
@@ -18,10 +18,6 @@ use Rattle.table.specs.declared.Want.the-variants as Want
 use Rattle.table.specs.declared.Give.{Give}
 use Rattle.table.specs.declared.Give.the-variants as Give
 use Rattle.sets.specs.Names.{nothing, either, outside, ask, asks, put}
-
-or-none : (a : Bool) → (a || false) ≡ a
-or-none true = refl
-or-none false = refl
 
 -- ---- written
 
@@ -46,7 +42,7 @@ either-none : (m : ℕ) (s : Names) → length s ≡ m → either s (replicate m
 either-none zero [] e = refl
 either-none zero (a ∷ s) e = absurd (omega arith)
 either-none (suc m) [] e = absurd (omega arith)
-either-none (suc m) (a ∷ s) e = rw (or-none a, either-none m s (omega arith))
+either-none (suc m) (a ∷ s) e = rw (or-false a, either-none m s (omega arith))
 
 -- what is written to a set is the set and what is written to none
 pub put-either : (s : Names) (gs : List Give) → length s ≡ 32 → either s (put nothing gs) ≡ put s gs
@@ -109,11 +105,11 @@ module _ (names : ℕ) (s : Names) (few : names ≤ length s) where
   outside-ask : (t : Names) (x : Operand) → length t ≡ length s → operandOk names x ≡ true
       → outside (ask t x) s ≡ (outside t s || gone (has s) x)
   outside-ask t (Operand.Name n) e o = outside-set t s n (omega (arith, ltb-true n names o)) e
-  outside-ask t (Operand.Literal l) e o = sym (or-none (outside t s))
+  outside-ask t (Operand.Literal l) e o = sym (or-false (outside t s))
 
   outside-asks : (t : Names) (ws : List Want) → length t ≡ length s → wantsOk names ws ≡ true
       → outside (asks t ws) s ≡ (outside t s || missing (has s) ws)
-  outside-asks t [] e o = sym (or-none (outside t s))
+  outside-asks t [] e o = sym (or-false (outside t s))
   outside-asks t (Want.Any x ∷ ws) e o =
       outside-asks (ask t x) ws (length-ask t x ∙ e) (and-l (wantsOk names ws) (operandOk names x) o)
       ∙ ap (λ (b : Bool). b || missing (has s) ws)
