@@ -282,13 +282,13 @@ stored-both l v w p q x y h e f g k =
     b ∙ ap (λ (z : Vars). wrote w z) a
 
 -- the names after an effect
-pub record OneWritten (vars : List Var) (e : Effect) (after : List Var) : Type 0 where
+pub record RowWritten (vars : List Var) (e : Effect) (after : List Var) : Type 0 where
   pub row : length after ≡ 32
   pub cells : cellsOf after ≡ wrote (e .second) (wrote (e .first) (cellsOf vars))
 
 -- x is put at p, then y at q
 abbrev pub TwoWritten : List Var → Effect → ℕ → Var → ℕ → Var → Type 0
-TwoWritten l e p x q y = OneWritten l e (set (set l p x) q y)
+TwoWritten l e p x q y = RowWritten l e (set (set l p x) q y)
 
 pub both-written : {vars : List Var} {e : Effect} {p q : ℕ} {x y : Var} → length vars ≡ 32
     → p ≡ effects.writePlace (e .first) → x ≡ effects.writeOver (e .first) (getD vars p noVar)
