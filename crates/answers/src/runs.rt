@@ -10,6 +10,7 @@ use case_text::read::next_line;
 use case_text::read::number;
 use case_text::read::number_of;
 use libc::STDOUT_FILENO;
+use loader::Answer;
 use machine::Ran;
 use run_text::runs::put_ran;
 use run_text::runs::put_step;
@@ -18,11 +19,10 @@ use run_text::runs::steps_at;
 use run_text::runs::told_at;
 use run_text::spare;
 use safety::Judged;
-use script::Answer;
 use script_text::table_at;
 use state::State;
 use std::num::wrapping_add_usize;
-use table::Script;
+use table::Table;
 
 const MOST_SCRIPT: usize = 8193;
 
@@ -43,7 +43,7 @@ fn flushed(out: &[u8], at: usize) -> usize {
 }
 
 // One step after the other, by the lines behind `steps=`.
-fn steps(case: &[u8], text: &[u8], script: Script, first: State, out: &mut [u8]) -> usize {
+fn steps(case: &[u8], text: &[u8], table: Table, first: State, out: &mut [u8]) -> usize {
     let head = find(case, b"steps=");
     let count = number(case, head);
     let mut line = next_line(case, head);
@@ -55,7 +55,7 @@ fn steps(case: &[u8], text: &[u8], script: Script, first: State, out: &mut [u8])
         let told = told_at(case, line);
         let control = told.control;
         let offer = told.offer;
-        let stepped = machine::step(text, script, m, control, offer);
+        let stepped = machine::step(text, table, m, control, offer);
         let next = stepped.state;
         m = next;
         k += 1;
@@ -68,12 +68,12 @@ fn steps(case: &[u8], text: &[u8], script: Script, first: State, out: &mut [u8])
 }
 
 fn run_loaded(case: &[u8], text: &[u8], out: &mut [u8]) -> usize {
-    let loaded = script::load(text);
+    let loaded = loader::load(text);
     let answer = loaded.answer;
     match answer {
         Answer::Accepted => {
-            let script = loaded.script;
-            steps(case, text, script, state::fresh(), out)
+            let table = loaded.table;
+            steps(case, text, table, state::fresh(), out)
         }
         Answer::Refused(why, line) => put_form(out, why, line),
     }
@@ -120,6 +120,6 @@ pub fn run_safe(case: &[u8], out: &mut [u8]) -> usize {
     match judged {
         Judged::Accepted => put_all(out, ran),
         Judged::Form(why, line) => put_form(out, why, line),
-        Judged::Rules(rule, line) => put_rule(out, rule, line),
+        Judged::Rules(refusal, line) => put_rule(out, refusal, line),
     }
 }

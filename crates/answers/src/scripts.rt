@@ -7,16 +7,16 @@ use case_text::put::put_refusal;
 use case_text::read::at_most;
 use case_text::read::bytes_of;
 use case_text::read::number_of;
-use rules::Rule;
+use loader::Answer;
+use rules::Refusal;
 use rules::Verdict;
-use script::Answer;
 use script_text::put_table;
 use script_text::table_at;
 use std::num::wrapping_add_usize;
 use table::Act;
 use table::Item;
-use table::Script;
 use table::Slot;
+use table::Table;
 
 const MOST_SCRIPT: usize = 8193;
 
@@ -26,14 +26,14 @@ pub fn put_form(out: &mut [u8], why: Refusal, line: usize) -> usize {
     put_refusal(out, argument::number(why) as usize, line)
 }
 
-pub fn put_rule(out: &mut [u8], rule: Rule, line: usize) -> usize {
-    put_refusal(out, rules::number(rule) as usize, line)
+pub fn put_rule(out: &mut [u8], refusal: Refusal, line: usize) -> usize {
+    put_refusal(out, rules::number(refusal) as usize, line)
 }
 
 fn put_verdict(out: &mut [u8], verdict: Verdict) -> usize {
     match verdict {
         Verdict::Accepted => put(out, 0, b"result=0\n"),
-        Verdict::Refused(rule, line) => put_rule(out, rule, line),
+        Verdict::Refused(refusal, line) => put_rule(out, refusal, line),
     }
 }
 
@@ -61,11 +61,11 @@ fn in_slot(slot: Slot) -> usize {
 }
 
 // How many of a table's places from one on hold something.
-fn in_places(script: Script, from: usize) -> usize {
+fn in_places(table: Table, from: usize) -> usize {
     let mut n: usize = 0;
     let mut i = lesser(from, ITEMS);
     while i < ITEMS {
-        let slot = script.items[i];
+        let slot = table.items[i];
         n = wrapping_add_usize(n, in_slot(slot));
         i += 1;
     }
@@ -73,27 +73,27 @@ fn in_places(script: Script, from: usize) -> usize {
 }
 
 // The same of a table that should be the empty one, with its numbers.
-fn in_table(script: Script) -> usize {
-    let numbers = wrapping_add_usize(in_number(script.count), in_number(script.names));
-    let numbers = wrapping_add_usize(in_number(script.end), numbers);
-    wrapping_add_usize(in_places(script, 0), numbers)
+fn in_table(table: Table) -> usize {
+    let numbers = wrapping_add_usize(in_number(table.count), in_number(table.names));
+    let numbers = wrapping_add_usize(in_number(table.end), numbers);
+    wrapping_add_usize(in_places(table, 0), numbers)
 }
 
 // Behind the answer, how many places past the items hold something; where the text is refused, how many of the whole
 // table do.
 fn put_loaded(out: &mut [u8], text: &[u8]) -> usize {
-    let loaded = script::load(text);
+    let loaded = loader::load(text);
     let answer = loaded.answer;
-    let script = loaded.script;
+    let table = loaded.table;
     match answer {
         Answer::Accepted => {
             let at = put(out, 0, b"result=0\n");
-            let at = put_table(out, at, script);
-            put_line(out, at, b"spare=", in_places(script, script.count))
+            let at = put_table(out, at, table);
+            put_line(out, at, b"spare=", in_places(table, table.count))
         }
         Answer::Refused(why, line) => {
             let at = put_form(out, why, line);
-            put_line(out, at, b"spare=", in_table(script))
+            put_line(out, at, b"spare=", in_table(table))
         }
     }
 }
@@ -105,12 +105,12 @@ pub fn load(case: &[u8], out: &mut [u8]) -> usize {
 }
 
 fn put_checked(out: &mut [u8], text: &[u8]) -> usize {
-    let loaded = script::load(text);
+    let loaded = loader::load(text);
     let answer = loaded.answer;
     match answer {
         Answer::Accepted => {
-            let script = loaded.script;
-            put_verdict(out, rules::check(text, script))
+            let table = loaded.table;
+            put_verdict(out, rules::check(text, table))
         }
         Answer::Refused(why, line) => put_form(out, why, line),
     }

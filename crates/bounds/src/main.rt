@@ -2,8 +2,8 @@
 use frame::HostNumber;
 use frame::WrittenFrame;
 use libc::STDOUT_FILENO;
+use loader::Answer;
 use rules::Verdict;
-use script::Answer;
 
 const ROOM: usize = 4096;
 
@@ -60,16 +60,16 @@ fn front(bytes: &[u8], size: usize) -> &[u8] {
 
 // The number of the loader's refusal, or of the rules'; 0 for an accepted script.
 fn vet(text: &[u8]) -> u8 {
-    let loaded = script::load(text);
+    let loaded = loader::load(text);
     let answer = loaded.answer;
     match answer {
         Answer::Refused(refusal, _) => argument::number(refusal),
         Answer::Accepted => {
-            let table = loaded.script;
+            let table = loaded.table;
             let verdict = rules::check(text, table);
             match verdict {
                 Verdict::Accepted => 0,
-                Verdict::Refused(rule, _) => rules::number(rule),
+                Verdict::Refused(refusal, _) => rules::number(refusal),
             }
         }
     }

@@ -46,7 +46,7 @@ fn told(answer: Answer) -> SatvReply
             rows: rows,
         },
         Answer::Refused(why, line) => {
-            let result = reply_line::number(why);
+            let result = reply_line::number(why) as u16;
             SatvReply {
                 result: result,
                 code: 0,
@@ -121,7 +121,7 @@ pub extern "C" fn satv_reply_row(reply: &[u8], row: usize) -> SatvRow
             }
         }
         Answer::Refused(why, line) => {
-            let result = reply_line::number(why);
+            let result = reply_line::number(why) as u16;
             no_row(result, line)
         }
     }

@@ -9,7 +9,7 @@ use Rattle.crc.specs.Crc as Crc
 use Rattle.prefix.specs.Prefix as Prefix
 use Rattle.value.specs.Literal as Literal
 use Rattle.package.specs.Package as Package
-use Rattle.script.specs.Load as Load
+use Rattle.loader.specs.Load as Load
 use Rattle.table.specs.Shape as Shape
 use Rattle.rules.specs.Check as Check
 use Rattle.cases.specs.Cases.{Case, Answer, answer, checked, cases}

@@ -17,7 +17,7 @@ use Rattle.package.specs.declared.Amount.{Amount}
 use Rattle.package.specs.declared.Amount.the-variants as Amount
 use Rattle.package.specs.declared.Metadatum.the-variants as Metadatum
 use Rattle.package.specs.Package.{Reading, parts, refused, packageOf}
-use Rattle.script.specs.Load.{Outcome, refusal, accepted, emptyScript, loaded}
+use Rattle.loader.specs.Load.{Outcome, refusal, accepted, emptyTable, loaded}
 use Rattle.rules.specs.Check as Rules
 use Rattle.rules.specs.Check.{Verdict, verdict}
 
@@ -62,7 +62,7 @@ float x stop = value (Literal.Value (Value.Real x) stop)
 abbrev pub onePart : ℕ → Amount → Answer
 onePart t a =
     let none = Metadatum.Missing in
-    reading (parts (record { kind = t; amount = a; status = none; range = none; noise = none } ∷ []))
+    reading (parts (record { letters = t; amount = a; status = none; range = none; noise = none } ∷ []))
 
 unfoldable pub cases : List Case
 cases =
@@ -89,4 +89,4 @@ cases =
     -- empty script, 11
     asks "K" (scriptFrom []) (script (refusal 11 1) (Rules.refused 11 1)) ∷
     -- only the empty line, accepted
-    asks "L" (scriptFrom (ascii "\n")) (script (accepted emptyScript 1) Rules.accepted) ∷ []
+    asks "L" (scriptFrom (ascii "\n")) (script (accepted emptyTable 1) Rules.accepted) ∷ []

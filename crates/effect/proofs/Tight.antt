@@ -6,34 +6,15 @@ use Rattle.table.specs.declared.Item.{Item}
 use Rattle.state.specs.declared.Control.{Control}
 use Rattle.state.specs.declared.Offer.{Offer}
 use Rattle.state.specs.declared.Status.{Status}
-use Rattle.state.specs.declared.Var.{Var}
-use Rattle.effect.specs.Code.{operandsOf, placesOf, cellsOf, writePlace, writeOver, boxesLeft, tryMate, tryFirst}
+use Rattle.effect.specs.Code.{boxesLeft, tryMate}
+use Rattle.effect.specs.Code.{tryFirst}
 use Rattle.effect.specs.Code.{triesOn, chosenBy, effectOf}
-use Rattle.effect.specs.declared.Cells.{Cells}
+use Rattle.operands.specs.declared.Cells.{Cells}
 use Rattle.effect.specs.declared.Chosen.{Chosen}
 use Rattle.effect.specs.declared.Effect.{Effect}
 use Rattle.effect.specs.declared.Looked.{Looked}
-use Rattle.effect.specs.declared.Operands.{Operands}
-use Rattle.effect.specs.declared.Places.{Places}
 use Rattle.effect.specs.declared.Spot.{Spot}
 use Rattle.effect.specs.declared.Tried.{Tried}
-use Rattle.effect.specs.declared.Write.{Write}
-
-pub only-operands-of : (item : Item) (r r′ : Operands) → r ≡ operandsOf item → r′ ≡ operandsOf item → r ≡ r′
-only-operands-of item r r′ e f = e ∙ sym f
-
-pub only-places-of : (o : Operands) (r r′ : Places) → r ≡ placesOf o → r′ ≡ placesOf o → r ≡ r′
-only-places-of o r r′ e f = e ∙ sym f
-
-pub only-cells-of : (o : Operands) (a b c d : Var) (r r′ : Cells) → r ≡ cellsOf o a b c d → r′ ≡ cellsOf o a b c d
-    → r ≡ r′
-only-cells-of o a b c d r r′ e f = e ∙ sym f
-
-pub only-write-place : (w : Write) (r r′ : ℕ) → r ≡ writePlace w → r′ ≡ writePlace w → r ≡ r′
-only-write-place w r r′ e f = e ∙ sym f
-
-pub only-write-over : (w : Write) (v : Var) (r r′ : Var) → r ≡ writeOver w v → r′ ≡ writeOver w v → r ≡ r′
-only-write-over w v r r′ e f = e ∙ sym f
 
 pub only-boxes-left : (b : Bool) (d h : ℕ) (r r′ : ℕ) → r ≡ boxesLeft b d h → r′ ≡ boxesLeft b d h → r ≡ r′
 only-boxes-left b d h r r′ e f = e ∙ sym f

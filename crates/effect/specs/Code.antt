@@ -1,12 +1,11 @@
 -- What a step makes of a run, as the code makes it from what was looked up: definitions that compute, one for each
--- function. That they are 01's step is shown in the crate `machine`, where text and names are.
+-- function. That they are 01's step is shown in the crate `steps`, where text and names are.
 use Prim.Native.Nat.{ℕ, _+_, _-_}
 use mathlib.Core.Bool.{Bool, true, false, not, _&&_, _||_, cond}
 use lib.Dec.{eqb, ltb, leb}
-use lib.IntN.{pos}
 use lib.ListN.{getD, set}
 use Rattle.value.specs.Arithmetic.{finite, calculated, checked, compares}
-use Rattle.table.specs.Uses.{breaksOrder}
+use Rattle.table.specs.ReadWrite.{breaksOrder}
 use Rattle.state.specs.State as rules
 use Rattle.state.specs.State.{cellValue, cellType, measures, reading, da, ba, eb}
 use Rattle.value.specs.declared.Calculated.{Calculated}
@@ -23,8 +22,6 @@ use Rattle.table.specs.declared.Head.{Head}
 use Rattle.table.specs.declared.Head.the-variants as Head
 use Rattle.table.specs.declared.Item.{Item}
 use Rattle.table.specs.declared.Item.the-variants as Item
-use Rattle.table.specs.declared.Operand.{Operand}
-use Rattle.table.specs.declared.Operand.the-variants as Operand
 use Rattle.table.specs.declared.Pack.{Pack}
 use Rattle.table.specs.declared.Pack.the-variants as Pack
 use Rattle.table.specs.declared.Sweep.{Sweep}
@@ -51,22 +48,20 @@ use Rattle.state.specs.declared.Var.{Var}
 use Rattle.state.specs.declared.What.{What}
 use Rattle.state.specs.declared.What.the-variants as What
 use Rattle.effect.specs.declared.Around.{Around}
-use Rattle.effect.specs.declared.Cells.{Cells}
+use Rattle.operands.specs.declared.Cells.{Cells}
 use Rattle.effect.specs.declared.Chosen.{Chosen}
 use Rattle.effect.specs.declared.Chosen.the-variants as Chosen
 use Rattle.effect.specs.declared.Effect.{Effect}
 use Rattle.effect.specs.declared.Looked.{Looked}
 use Rattle.effect.specs.declared.Need.{Need}
 use Rattle.effect.specs.declared.Need.the-variants as Need
-use Rattle.effect.specs.declared.Operands.{Operands}
-use Rattle.effect.specs.declared.Places.{Places}
 use Rattle.effect.specs.declared.Spot.{Spot}
 use Rattle.effect.specs.declared.Tried.{Tried}
 use Rattle.effect.specs.declared.Tried.the-variants as Tried
 use Rattle.effect.specs.declared.Trouble.{Trouble}
 use Rattle.effect.specs.declared.Trouble.the-variants as Trouble
-use Rattle.effect.specs.declared.Write.{Write}
-use Rattle.effect.specs.declared.Write.the-variants as Write
+use Rattle.operands.specs.declared.Written.{Written}
+use Rattle.operands.specs.declared.Written.the-variants as Written
 
 -- ---- src/spots.rt: the spot anew
 
@@ -129,7 +124,7 @@ isInside s = cond (eqb (s .depth) 0) false (eqb (topOf s) (s .at))
 
 -- ---- src/effects.rt: the effects that steps have
 
-abbrev pub acting : Spot → What → What → Write → Write → Effect
+abbrev pub acting : Spot → What → What → Written → Written → Effect
 acting s v w p q =
     record {
       spot = s;
@@ -151,8 +146,8 @@ still s t a =
       one = What.Nothing;
       two = What.Nothing;
       leaves = false;
-      first = Write.Nothing;
-      second = Write.Nothing;
+      first = Written.Nothing;
+      second = Written.Nothing;
     }
 
 abbrev pub leaving : Spot → Status → Answer → Effect
@@ -164,18 +159,18 @@ leaving s t a =
       one = What.Nothing;
       two = What.Nothing;
       leaves = true;
-      first = Write.Nothing;
-      second = Write.Nothing;
+      first = Written.Nothing;
+      second = Written.Nothing;
     }
 
 abbrev pub runs : Spot → Effect
 runs s = still s Status.Live Answer.Running
 
 abbrev pub saying : Spot → What → Effect
-saying s w = acting s w What.Nothing Write.Nothing Write.Nothing
+saying s w = acting s w What.Nothing Written.Nothing Written.Nothing
 
-abbrev pub writing : Spot → Write → Effect
-writing s w = acting s What.Nothing What.Nothing w Write.Nothing
+abbrev pub writing : Spot → Written → Effect
+writing s w = acting s What.Nothing What.Nothing w Written.Nothing
 
 abbrev pub faultBy : Spot → Fault → Effect
 faultBy s f = still s (Status.Fault f) (Answer.Fault f)
@@ -183,99 +178,7 @@ faultBy s f = still s (Status.Fault f) (Answer.Fault f)
 abbrev pub stopBy : Spot → Stop → Effect
 stopBy s q = still s (Status.Stopped q) (Answer.Stopped q)
 
--- ---- src/reads.rt: what an item reads; past the last operand a literal 0
-
-abbrev pub noOperand : Operand
-noOperand = Operand.Literal (Value.Whole (pos 0))
-
-abbrev pub twoOperands : Operand → Operand → Operands
-twoOperands x y = record { a = x; b = y; c = noOperand; d = noOperand }
-
-abbrev pub oneOperand : Operand → Operands
-oneOperand x = twoOperands x noOperand
-
-abbrev pub noOperands : Operands
-noOperands = oneOperand noOperand
-
-abbrev pub conditionOperands : Condition → Operands
-conditionOperands c = twoOperands (c .left) (c .right)
-
-abbrev pub sweepOperands : Sweep → Operands
-sweepOperands w = record { a = w .begin; b = w .end; c = w .step; d = w .rate }
-
-abbrev pub actOperands : Act → Operands
-actOperands (Act.Var v) = noOperands
-actOperands (Act.Store v l t) = noOperands
-actOperands (Act.Copy n m) = oneOperand (Operand.Name n)
-actOperands (Act.Calc o n x) = twoOperands (Operand.Name n) x
-actOperands (Act.Meas x v t) = oneOperand x
-actOperands (Act.TimerGet v) = noOperands
-actOperands (Act.SendString s) = noOperands
-actOperands (Act.Wait x) = oneOperand x
-actOperands (Act.SetE x) = oneOperand x
-actOperands (Act.SetMode n) = noOperands
-actOperands Act.TimerStart = noOperands
-actOperands Act.CellOn = noOperands
-actOperands Act.CellOff = noOperands
-actOperands Act.Abort = noOperands
-
-abbrev pub packOperands : Pack → Operands
-packOperands Pack.Start = noOperands
-packOperands (Pack.Add n) = oneOperand (Operand.Name n)
-packOperands Pack.End = noOperands
-
-abbrev pub headOperands : Head → Operands
-headOperands (Head.If c) = conditionOperands c
-headOperands (Head.Loop c) = conditionOperands c
-headOperands (Head.Sweep w) = sweepOperands w
-
-abbrev pub branchOperands : Branch → Operands
-branchOperands (Branch.ElseIf c) = conditionOperands c
-branchOperands Branch.Else = noOperands
-
-abbrev pub operandsOf : Item → Operands
-operandsOf (Item.Act a) = actOperands a
-operandsOf (Item.Pack p) = packOperands p
-operandsOf (Item.Open h) = headOperands h
-operandsOf (Item.Branch b) = branchOperands b
-operandsOf (Item.Close e) = noOperands
-operandsOf Item.Break = noOperands
-operandsOf Item.Tag = noOperands
-
--- the row of 32 names: where an operand stands in it, the first place where in none; and what it holds
-
-abbrev pub inRow : ℕ → ℕ
-inRow n = cond (ltb n 32) n 0
-
-abbrev pub placeOf : Operand → ℕ
-placeOf (Operand.Name n) = inRow n
-placeOf (Operand.Literal l) = 0
-
-abbrev pub placesOf : Operands → Places
-placesOf o = record { a = placeOf (o .a); b = placeOf (o .b); c = placeOf (o .c); d = placeOf (o .d) }
-
-abbrev pub cellIn : ℕ → Var → Cell
-cellIn n v = cond (ltb n 32) (v .cell) Cell.Unwritten
-
-abbrev pub cellOf : Operand → Var → Cell
-cellOf (Operand.Name n) v = cellIn n v
-cellOf (Operand.Literal l) v = Cell.Holds l 0
-
-abbrev pub cellsOf : Operands → Var → Var → Var → Var → Cells
-cellsOf o x y z u = record { a = cellOf (o .a) x; b = cellOf (o .b) y; c = cellOf (o .c) z; d = cellOf (o .d) u }
-
--- ---- src/writes.rt: what an item writes, and what a step leaves
-
-abbrev pub writePlace : Write → ℕ
-writePlace Write.Nothing = 0
-writePlace (Write.Put n c) = inRow n
-
-abbrev pub putIn : ℕ → Cell → Var → Var
-putIn n c v = cond (ltb n 32) (record { cell = c }) v
-
-abbrev pub writeOver : Write → Var → Var
-writeOver Write.Nothing v = v
-writeOver (Write.Put n c) v = putIn n c v
+-- ---- src/boxes.rt: how many boxes a step leaves
 
 abbrev pub least : ℕ → ℕ → ℕ
 least n k = cond (leb n k) n k
@@ -447,14 +350,14 @@ chosenFault (Chosen.Bad f) = Trouble.Fault f
 -- ---- src/acts.rt: acts and package marks
 
 abbrev pub keepResult : Spot → ℕ → ℕ → Calculated → Effect
-keepResult s n t (Calculated.Value v) = writing (goOn s) (Write.Put n (Cell.Holds v t))
+keepResult s n t (Calculated.Value v) = writing (goOn s) (Written.Put n (Cell.Holds v t))
 keepResult s n t Calculated.ByZero = stopBy s Stop.ByZero
 keepResult s n t Calculated.NotFinite = stopBy s Stop.NotFinite
 
 abbrev pub runAct : Spot → Act → Cell → Cell → Offer → Effect
 runAct s (Act.Var v) x y o = runs (goOn s)
-runAct s (Act.Store n v t) x y o = writing (goOn s) (Write.Put n (Cell.Holds v t))
-runAct s (Act.Copy n m) x y o = writing (goOn s) (Write.Put m x)
+runAct s (Act.Store n v t) x y o = writing (goOn s) (Written.Put n (Cell.Holds v t))
+runAct s (Act.Copy n m) x y o = writing (goOn s) (Written.Put m x)
 runAct s (Act.Calc f n z) x y o = keepResult s n (cellType x) (calculated f (cellValue x) (cellValue y))
 runAct s (Act.Meas z n t) x y o = keepResult s n t (checked (reading o))
 runAct s (Act.TimerGet n) x y o = keepResult s n eb (checked (reading o))
@@ -474,7 +377,7 @@ runPack s Pack.End x = saying (goOn (withPacked s false)) What.End
 
 -- ---- src/marks.rt: opening and closing marks
 
-abbrev pub enterLoop : Spot → LoopSort → Write → Write → Effect
+abbrev pub enterLoop : Spot → LoopSort → Written → Written → Effect
 enterLoop s k p q =
     cond (isInside s) (acting (goOn s) What.Nothing What.Nothing p q)
     (acting (goOn (push s)) (What.Enter k) What.Nothing p q)
@@ -482,16 +385,16 @@ enterLoop s k p q =
 abbrev pub leaveLoop : Spot → LoopSort → ℕ → Effect
 leaveLoop s k i =
     cond (isInside s) (saying (leaveTo s (below (s .depth)) i (measures k)) (What.Leave k))
-    (acting (leaveTo s (s .depth) i (measures k)) (What.Enter k) (What.Leave k) Write.Nothing Write.Nothing)
+    (acting (leaveTo s (s .depth) i (measures k)) (What.Enter k) (What.Leave k) Written.Nothing Written.Nothing)
 
 abbrev pub runLoop : Spot → Bool → ℕ → Effect
-runLoop s b i = cond b (enterLoop s LoopSort.Loop Write.Nothing Write.Nothing) (leaveLoop s LoopSort.Loop i)
+runLoop s b i = cond b (enterLoop s LoopSort.Loop Written.Nothing Written.Nothing) (leaveLoop s LoopSort.Loop i)
 
 abbrev pub runPoint : Spot → Sweep → Point → Effect
 runPoint s w p =
     cond (finite (Value.Real (p .potential)) && finite (Value.Real (p .current)))
-    (enterLoop s LoopSort.Sweep (Write.Put (w .potential) (Cell.Holds (Value.Real (p .potential)) da))
-    (Write.Put (w .current) (Cell.Holds (Value.Real (p .current)) ba)))
+    (enterLoop s LoopSort.Sweep (Written.Put (w .potential) (Cell.Holds (Value.Real (p .potential)) da))
+    (Written.Put (w .current) (Cell.Holds (Value.Real (p .current)) ba)))
     (stopBy s Stop.NotFinite)
 
 abbrev pub runSweep : Spot → Sweep → ℕ → Offer → Effect

@@ -3,9 +3,9 @@ ghost use mathlib.Core.Path.{_≡_};
 ghost use Rattle.effect.specs.Code as code;
 use super::Effect;
 use super::Spot;
-use super::Write;
 use super::effects;
 use super::spots;
+use operands::Written;
 use state::Cell;
 use state::Offer;
 use state::Order;
@@ -19,13 +19,13 @@ use value::Calculated;
 const TYPE_EB: u16 = 25954;
 
 // A result or a reading is kept, or stops the run.
-fn keep_result(s: Spot, n: usize, kind: u16, c: Calculated) -> Effect
-    ensures { λ r. ⌜ r ≡ code.keepResult s n kind c ⌝ }
+fn keep_result(s: Spot, n: usize, letters: u16, c: Calculated) -> Effect
+    ensures { λ r. ⌜ r ≡ code.keepResult s n letters c ⌝ }
 {
     match c {
         Calculated::Value(v) => effects::writing(
             spots::go_on(s),
-            Write::Put(n, Cell::Holds(v, kind)),
+            Written::Put(n, Cell::Holds(v, letters)),
         ),
         Calculated::ByZero => effects::stop_by(s, Stop::ByZero),
         Calculated::NotFinite => effects::stop_by(s, Stop::NotFinite),
@@ -38,15 +38,15 @@ pub(crate) fn run_act(s: Spot, a: Act, x: Cell, y: Cell, o: Offer) -> Effect
     let on = spots::go_on(s);
     match a {
         Act::Var(_) => effects::running(on),
-        Act::Store(n, v, kind) => effects::writing(on, Write::Put(n, Cell::Holds(v, kind))),
-        Act::Copy(_, to) => effects::writing(on, Write::Put(to, x)),
+        Act::Store(n, v, letters) => effects::writing(on, Written::Put(n, Cell::Holds(v, letters))),
+        Act::Copy(_, to) => effects::writing(on, Written::Put(to, x)),
         Act::Calc(by, n, _) => keep_result(
             s,
             n,
             state::cell_type(x),
             value::calculate(by, state::cell_value(x), state::cell_value(y)),
         ),
-        Act::Meas(_, n, kind) => keep_result(s, n, kind, state::reading_of(o)),
+        Act::Meas(_, n, letters) => keep_result(s, n, letters, state::reading_of(o)),
         Act::TimerGet(n) => keep_result(s, n, TYPE_EB, state::reading_of(o)),
         Act::SendString(t) => effects::saying(on, What::Text(t)),
         Act::Wait(_) => effects::saying(on, What::Order(Order::Wait(state::cell_value(x)))),

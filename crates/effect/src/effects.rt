@@ -3,14 +3,14 @@ ghost use mathlib.Core.Path.{_≡_};
 ghost use Rattle.effect.specs.Code as code;
 use super::Effect;
 use super::Spot;
-use super::Write;
+use operands::Written;
 use state::Answer;
 use state::Fault;
 use state::Status;
 use state::Stop;
 use state::What;
 
-pub(crate) fn acting(s: Spot, one: What, two: What, first: Write, second: Write) -> Effect
+pub(crate) fn acting(s: Spot, one: What, two: What, first: Written, second: Written) -> Effect
     ensures { λ r. ⌜ r ≡ code.acting s one two first second ⌝ }
 {
     Effect {
@@ -35,8 +35,8 @@ pub(crate) fn still(s: Spot, status: Status, a: Answer) -> Effect
         one: What::Nothing,
         two: What::Nothing,
         leaves: false,
-        first: Write::Nothing,
-        second: Write::Nothing,
+        first: Written::Nothing,
+        second: Written::Nothing,
     }
 }
 
@@ -51,8 +51,8 @@ pub(crate) fn leaving(s: Spot, status: Status, a: Answer) -> Effect
         one: What::Nothing,
         two: What::Nothing,
         leaves: true,
-        first: Write::Nothing,
-        second: Write::Nothing,
+        first: Written::Nothing,
+        second: Written::Nothing,
     }
 }
 
@@ -65,13 +65,13 @@ pub(crate) fn running(s: Spot) -> Effect
 pub(crate) fn saying(s: Spot, w: What) -> Effect
     ensures { λ r. ⌜ r ≡ code.saying s w ⌝ }
 {
-    acting(s, w, What::Nothing, Write::Nothing, Write::Nothing)
+    acting(s, w, What::Nothing, Written::Nothing, Written::Nothing)
 }
 
-pub(crate) fn writing(s: Spot, w: Write) -> Effect
+pub(crate) fn writing(s: Spot, w: Written) -> Effect
     ensures { λ r. ⌜ r ≡ code.writing s w ⌝ }
 {
-    acting(s, What::Nothing, What::Nothing, w, Write::Nothing)
+    acting(s, What::Nothing, What::Nothing, w, Written::Nothing)
 }
 
 pub(crate) fn fault_by(s: Spot, f: Fault) -> Effect

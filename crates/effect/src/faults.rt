@@ -2,11 +2,11 @@
 ghost use mathlib.Core.Path.{_≡_};
 ghost use Rattle.effect.specs.Code as code;
 use super::BOXES;
-use super::Cells;
 use super::Need;
 use super::Spot;
 use super::Trouble;
 use super::spots;
+use operands::Cells;
 use state::Cell;
 use state::Fault;
 use table::Act;

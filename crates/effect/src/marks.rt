@@ -2,14 +2,14 @@
 ghost use mathlib.Core.Path.{_≡_};
 ghost use Rattle.effect.specs.Code as code;
 use super::Around;
-use super::Cells;
 use super::Chosen;
 use super::Effect;
 use super::Spot;
-use super::Write;
 use super::effects;
 use super::spots;
 use super::tries;
+use operands::Cells;
+use operands::Written;
 use state::Cell;
 use state::LoopSort;
 use state::Offer;
@@ -27,7 +27,7 @@ const TYPE_DA: u16 = 25697;
 const TYPE_BA: u16 = 25185;
 
 // Into a loop: its mark where it is entered first.
-fn enter_loop(s: Spot, sort: LoopSort, first: Write, second: Write) -> Effect
+fn enter_loop(s: Spot, sort: LoopSort, first: Written, second: Written) -> Effect
     ensures { λ r. ⌜ r ≡ code.enterLoop s sort first second ⌝ }
 {
     if spots::is_inside(s) {
@@ -58,8 +58,8 @@ fn leave_loop(s: Spot, sort: LoopSort, close: usize) -> Effect
         spots::leave_to(s, d, close, sweep),
         What::Enter(sort),
         What::Leave(sort),
-        Write::Nothing,
-        Write::Nothing,
+        Written::Nothing,
+        Written::Nothing,
     )
 }
 
@@ -67,7 +67,7 @@ fn run_loop(s: Spot, holding: bool, close: usize) -> Effect
     ensures { λ r. ⌜ r ≡ code.runLoop s holding close ⌝ }
 {
     if holding {
-        return enter_loop(s, LoopSort::Loop, Write::Nothing, Write::Nothing);
+        return enter_loop(s, LoopSort::Loop, Written::Nothing, Written::Nothing);
     }
     leave_loop(s, LoopSort::Loop, close)
 }
@@ -81,8 +81,8 @@ fn run_point(s: Spot, w: Sweep, p: Point) -> Effect
         return enter_loop(
             s,
             LoopSort::Sweep,
-            Write::Put(w.potential, Cell::Holds(potential, TYPE_DA)),
-            Write::Put(w.current, Cell::Holds(current, TYPE_BA)),
+            Written::Put(w.potential, Cell::Holds(potential, TYPE_DA)),
+            Written::Put(w.current, Cell::Holds(current, TYPE_BA)),
         );
     }
     effects::stop_by(s, Stop::NotFinite)

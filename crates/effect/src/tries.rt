@@ -1,13 +1,13 @@
 // The mates that a false condition tries.
 ghost use mathlib.Core.Path.{_≡_};
 ghost use Rattle.effect.specs.Code as code;
-use super::Cells;
 use super::Chosen;
 use super::Need;
 use super::Tried;
 use super::Trouble;
 use super::faults;
 use super::spots;
+use operands::Cells;
 use state::Fault;
 use table::Branch;
 use table::Condition;

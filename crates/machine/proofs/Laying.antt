@@ -19,10 +19,11 @@ use Rattle.effect.specs.Code as effects
 use Rattle.effect.specs.declared.Effect.{Effect}
 use Rattle.effect.specs.declared.Spot.{Spot}
 use Rattle.state.specs.declared.What.the-variants as What
-use Rattle.machine.specs.Words.{Thing, What}
-use Rattle.machine.specs.Machine.{leaveOuts}
-use Rattle.machine.specs.Code.{handed, countOf, handsOut, openAt}
-use Rattle.machine.proofs.Placed.{leave-more}
+use Rattle.state.specs.declared.Thing.{Thing}
+use Rattle.state.specs.declared.What.{What}
+use Rattle.steps.specs.Machine.{leaveOuts}
+use Rattle.steps.specs.Code.{handed, countOf, handsOut, openAt}
+use Rattle.steps.proofs.Placed.{leave-more}
 
 -- so many things stand in a row of n, with nothing past them
 pub record Laid (n : ℕ) (hs : List Thing) (h : ℕ) (os : List Out) : Type 0 where

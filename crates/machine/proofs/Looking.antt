@@ -8,7 +8,7 @@ use lib.ListN.{length, getD, take, length-append}
 use lib.Seq.{length-take-le}
 use Rattle.laws.proofs.Bools.{no′}
 use Rattle.table.specs.declared.Item.{Item}
-use Rattle.table.specs.declared.Script.{Script}
+use Rattle.table.specs.declared.Table.{Table}
 use Rattle.table.specs.Item.{isSweep}
 use Rattle.table.specs.Shape.{itemsOf, noSlot, inShape}
 use Rattle.mates.specs.declared.Mark.{Mark}
@@ -16,39 +16,47 @@ use Rattle.mates.specs.declared.Survey.{Survey}
 use Rattle.mates.specs.Mates.{itemAt}
 use Rattle.mates.specs.Code.{Marked, Seen, Surveyed, tagIn}
 use Rattle.mates.proofs.Scanned.{marked}
-use Rattle.state.specs.State.{Out, Run, Step, Vars}
-use Rattle.state.specs.Meaning.{cellsOf, outsOf, runOf}
+use Rattle.state.specs.State.{Out, State, Step, Vars}
+use Rattle.state.specs.Meaning.{cellsOf, outsOf, stateOf}
 use Rattle.state.proofs.Boxes.{tops-length}
 use Rattle.state.proofs.Names.{noVar}
 use Rattle.state.proofs.Things.{outs-length}
 use Rattle.effect.specs.Code as effects
+use Rattle.operands.specs.Code as operands
 use Rattle.effect.specs.declared.Spot.{Spot}
 use Rattle.effect.specs.declared.Effect.{Effect}
 use Rattle.effect.specs.declared.Around.{Around}
-use Rattle.effect.specs.declared.Cells.{Cells}
+use Rattle.operands.specs.declared.Cells.{Cells}
 use Rattle.effect.specs.declared.Chosen.{Chosen}
 use Rattle.effect.specs.declared.Looked.{Looked}
-use Rattle.effect.specs.declared.Operands.{Operands}
-use Rattle.effect.specs.declared.Places.{Places}
+use Rattle.operands.specs.declared.Operands.{Operands}
+use Rattle.operands.specs.declared.Places.{Places}
 use Rattle.effect.specs.declared.Tried.{Tried}
-use Rattle.machine.specs.Words.{Control, Offer, State, Status, Thing, Var}
-use Rattle.machine.specs.Machine as rules
-use Rattle.machine.specs.Machine.{anyOpen, leaveOuts, runOk}
-use Rattle.machine.specs.Code.{runWith, stepOf, operandCell, chosenOf, triedAt, triedBy, openAt, Surrounds, Here}
-use Rattle.machine.specs.Code.{LooksUp, stepKnown, least}
-use Rattle.machine.proofs.Effecting.{effect-is}
+use Rattle.state.specs.declared.Control.{Control}
+use Rattle.state.specs.declared.Offer.{Offer}
+use Rattle.state.specs.declared.Status.{Status}
+use Rattle.state.specs.declared.Thing.{Thing}
+use Rattle.state.specs.declared.Var.{Var}
+use Rattle.state.specs.declared.State as coded
+use Rattle.steps.specs.Machine as rules
+use Rattle.steps.specs.Machine.{anyOpen, leaveOuts, stateOk}
+use Rattle.steps.specs.Code.{stateWith, stepOf, operandCell, chosenOf, triedAt, triedBy, openAt, Surrounds}
+use Rattle.steps.specs.Code.{Here}
+use Rattle.steps.specs.Code.{LooksUp, stepKnown, least}
+use Rattle.steps.proofs.Effecting.{effect-is}
 use Rattle.machine.proofs.Laying.{Laid}
-use Rattle.machine.proofs.Lookups.{reads-all, reads-first, reads-second, mates, tried-all, first-tried, count-is}
-use Rattle.machine.proofs.Lookups.{items-few, item-clamped, tag-is, goes-on, tried-more, item-here, least-most}
-use Rattle.machine.proofs.Shapes.{and-r, shape-stands}
+use Rattle.steps.proofs.Lookups.{reads-all, reads-first, reads-second, mates, tried-all, first-tried}
+use Rattle.steps.proofs.Lookups.{count-is}
+use Rattle.steps.proofs.Lookups.{items-few, item-clamped, tag-is, goes-on, tried-more, item-here, least-most}
+use Rattle.steps.proofs.Shapes.{and-r, shape-stands}
 
 -- a run whose table and state are in shape has at most eight open boxes
-known-deep : (size : ℕ) (t : Script) (vars : List Var) (s : Spot) (st : Status) (b : Bool) → length (t .items) ≡ 128
-    → b ≡ (inShape size t && runOk (itemsOf t) (runWith (cellsOf vars) s st)) → b ≡ true → s .depth ≤ 8
+known-deep : (size : ℕ) (t : Table) (vars : List Var) (s : Spot) (st : Status) (b : Bool) → length (t .items) ≡ 128
+    → b ≡ (inShape size t && stateOk (itemsOf t) (stateWith (cellsOf vars) s st)) → b ≡ true → s .depth ≤ 8
 known-deep size t vars s st b full e q =
     rw (tops-length (s .boxes) (s .depth)) at
-    (shape-stands (itemsOf t) (runWith (cellsOf vars) s st) (items-few t full)
-    (and-r (inShape size t) (runOk (itemsOf t) (runWith (cellsOf vars) s st)) (sym e ∙ q)) .few)
+    (shape-stands (itemsOf t) (stateWith (cellsOf vars) s st) (items-few t full)
+    (and-r (inShape size t) (stateOk (itemsOf t) (stateWith (cellsOf vars) s st)) (sym e ∙ q)) .few)
 
 -- boxes are left only where they are in shape
 leaves-deep : (b : Bool) (s : Spot) (st : Status) (k : Looked) (c : Control) (o : Offer) (e : Effect)
@@ -68,42 +76,42 @@ laid-count n h₀ h hs hs₀ os l p q w =
     omega arith
 
 -- table and state are judged by the pass and by the state's own test
-known-by : (size : ℕ) (t : Script) (m : Run) (ms : List Mark) (a b : Bool) (n : ℕ) → length (t .items) ≡ 128
+known-by : (size : ℕ) (t : Table) (m : State) (ms : List Mark) (a b : Bool) (n : ℕ) → length (t .items) ≡ 128
     → Marked (itemsOf t) ms
-    → a ≡ inShape size t → Seen ms (λ xs. length xs ≡ n → b ≡ runOk xs m) → n ≡ least (t .count) 128
-    → (a && b) ≡ (inShape size t && runOk (itemsOf t) m)
+    → a ≡ inShape size t → Seen ms (λ xs. length xs ≡ n → b ≡ stateOk xs m) → n ≡ least (t .count) 128
+    → (a && b) ≡ (inShape size t && stateOk (itemsOf t) m)
 known-by size t m ms a b n full k e f c = rw (e, f (itemsOf t) k (count-is t full ∙ sym c))
 
 -- the cells that were fetched
-cells-by : (vars : List Var) (x : Item) (o : Operands) (p : Places) (k : Cells) → o ≡ effects.operandsOf x
-    → p ≡ effects.placesOf o
-    → k ≡ effects.cellsOf o (getD vars (p .a) noVar) (getD vars (p .b) noVar) (getD vars (p .c) noVar)
+cells-by : (vars : List Var) (x : Item) (o : Operands) (p : Places) (k : Cells) → o ≡ operands.operandsOf x
+    → p ≡ operands.placesOf o
+    → k ≡ operands.cellsOf o (getD vars (p .a) noVar) (getD vars (p .b) noVar) (getD vars (p .c) noVar)
     (getD vars (p .d) noVar)
-    → k ≡ effects.cellsOf (effects.operandsOf x) (getD vars (effects.placeOf (effects.operandsOf x .a)) noVar)
-    (getD vars (effects.placeOf (effects.operandsOf x .b)) noVar)
-    (getD vars (effects.placeOf (effects.operandsOf x .c)) noVar)
-    (getD vars (effects.placeOf (effects.operandsOf x .d)) noVar)
+    → k ≡ operands.cellsOf (operands.operandsOf x) (getD vars (operands.placeOf (operands.operandsOf x .a)) noVar)
+    (getD vars (operands.placeOf (operands.operandsOf x .b)) noVar)
+    (getD vars (operands.placeOf (operands.operandsOf x .c)) noVar)
+    (getD vars (operands.placeOf (operands.operandsOf x .d)) noVar)
 cells-by vars x o p k e f g = g ∙ rw (f, e)
 
 -- and the first two of a mate
 two-by : (vars : List Var) (x : Item) (o : Operands) (p : Places) (k : Cells) → length vars ≡ 32
-    → o ≡ effects.operandsOf x → p ≡ effects.placesOf o
-    → k ≡ effects.cellsOf o (getD vars (p .a) noVar) (getD vars (p .b) noVar) (getD vars (p .a) noVar)
+    → o ≡ operands.operandsOf x → p ≡ operands.placesOf o
+    → k ≡ operands.cellsOf o (getD vars (p .a) noVar) (getD vars (p .b) noVar) (getD vars (p .a) noVar)
     (getD vars (p .b) noVar)
-    → (operandCell (cellsOf vars) (effects.operandsOf x .a) ≡ k .a)
-    × (operandCell (cellsOf vars) (effects.operandsOf x .b) ≡ k .b)
+    → (operandCell (cellsOf vars) (operands.operandsOf x .a) ≡ k .a)
+    × (operandCell (cellsOf vars) (operands.operandsOf x .b) ≡ k .b)
 two-by vars x o p k h e f g =
-    rw (g, f, e) (reads-first vars h (effects.operandsOf x), reads-second vars h (effects.operandsOf x))
+    rw (g, f, e) (reads-first vars h (operands.operandsOf x), reads-second vars h (operands.operandsOf x))
 
 -- ---- where a turn begins
 
-abbrev pub Known : Bool → ℕ → Script → Run → Type 0
-Known b size t m = b ≡ (inShape size t && runOk (itemsOf t) m)
+abbrev pub Known : Bool → ℕ → Table → State → Type 0
+Known b size t m = b ≡ (inShape size t && stateOk (itemsOf t) m)
 
 -- the values with which a turn begins
 pub record Stage : Type 0 where
   pub size : ℕ
-  pub script : Script
+  pub table : Table
   pub marks : List Mark
   pub count : ℕ
   pub tag : ℕ
@@ -112,10 +120,10 @@ pub record Stage : Type 0 where
   pub spot : Spot
   pub status : Status
 
-abbrev pub stage : ℕ → Script → List Mark → ℕ → ℕ → Bool → List Var → Spot → Status → Stage
+abbrev pub stage : ℕ → Table → List Mark → ℕ → ℕ → Bool → List Var → Spot → Status → Stage
 stage size t ms n tag b vars s st = record {
   size = size;
-  script = t;
+  table = t;
   marks = ms;
   count = n;
   tag = tag;
@@ -125,28 +133,28 @@ stage size t ms n tag b vars s st = record {
   status = st;
 }
 
-abbrev pub runAt : Stage → Run
-runAt g = runWith (cellsOf (g .vars)) (g .spot) (g .status)
+abbrev pub runAt : Stage → State
+runAt g = stateWith (cellsOf (g .vars)) (g .spot) (g .status)
 
 abbrev pub stepAt : Stage → Control → Offer → Step
-stepAt g c o = stepKnown (g .shaped) (itemsOf (g .script)) (runAt g) c o
+stepAt g c o = stepKnown (g .shaped) (itemsOf (g .table)) (runAt g) c o
 
 -- what is known where a turn begins
 pub record Turning (g : Stage) : Type 0 where
-  pub full : length (g .script .items) ≡ 128
-  pub marked : Marked (itemsOf (g .script)) (g .marks)
-  pub count : g .count ≡ least (g .script .count) 128
+  pub full : length (g .table .items) ≡ 128
+  pub marked : Marked (itemsOf (g .table)) (g .marks)
+  pub count : g .count ≡ least (g .table .count) 128
   pub tag : g .tag ≡ tagIn (g .marks) (g .count)
-  pub known : Known (g .shaped) (g .size) (g .script) (runAt g)
+  pub known : Known (g .shaped) (g .size) (g .table) (runAt g)
   pub row : length (g .vars) ≡ 32
   pub wide : length (g .spot .boxes) ≡ 8
 
 -- by the calls before the first turn
-pub turning-by : {size : ℕ} {t : Script} {v : Survey} {n tag : ℕ} (m : State) (s : Spot) (ok : Bool)
+pub turning-by : {size : ℕ} {t : Table} {v : Survey} {n tag : ℕ} (m : coded.State) (s : Spot) (ok : Bool)
     → Surveyed size t v
     → length (t .items) ≡ 128 → length (m .vars) ≡ 32 → length (m .boxes) ≡ 8 → n ≡ least (t .count) 128
-    → Seen (v .marks .at) (λ xs. length xs ≡ n → ok ≡ runOk xs (runOf m)) → tag ≡ tagIn (v .marks .at) n
-    → (runWith (cellsOf (m .vars)) s (m .status) ≡ runOf m) × (s .boxes ≡ m .boxes)
+    → Seen (v .marks .at) (λ xs. length xs ≡ n → ok ≡ stateOk xs (stateOf m)) → tag ≡ tagIn (v .marks .at) n
+    → (stateWith (cellsOf (m .vars)) s (m .status) ≡ stateOf m) × (s .boxes ≡ m .boxes)
     → Turning (stage size t (v .marks .at) n tag (v .shaped && ok) (m .vars) s (m .status))
 turning-by {size} {t} {v} {n} {tag} m s ok survey full row wide count judged tagged stands =
     let seen = marked t (v .marks) full (survey .marks) in
@@ -156,8 +164,8 @@ turning-by {size} {t} {v} {n} {tag} m s ok survey full row wide count judged tag
       count = count;
       tag = tagged;
       known =
-          known-by size t (runOf m) (v .marks .at) (v .shaped) ok n full seen (survey .shaped) judged count
-          ∙ ap (λ (z : Run). inShape size t && runOk (itemsOf t) z) (sym (stands .0));
+          known-by size t (stateOf m) (v .marks .at) (v .shaped) ok n full seen (survey .shaped) judged count
+          ∙ ap (λ (z : State). inShape size t && stateOk (itemsOf t) z) (sym (stands .0));
       row = row;
       wide = ap length (stands .1) ∙ wide;
     }
@@ -167,15 +175,15 @@ turning-by {size} {t} {v} {n} {tag} m s ok survey full row wide count judged tag
 -- the item x where the run stands is read with its cells k, and its mates before j are tried
 pub record Trying (g : Stage) (c : Control) (o : Offer) (x : Item) (k : Cells) (found : Tried) (j : ℕ) : Type 0 where
   pub head : Turning g
-  pub item : x ≡ (getD (g .script .items) (least (g .spot .at) 127) noSlot) .item
+  pub item : x ≡ (getD (g .table .items) (least (g .spot .at) 127) noSlot) .item
   pub cells : k
-      ≡ effects.cellsOf (effects.operandsOf x) (getD (g .vars) (effects.placeOf (effects.operandsOf x .a)) noVar)
-      (getD (g .vars) (effects.placeOf (effects.operandsOf x .b)) noVar)
-      (getD (g .vars) (effects.placeOf (effects.operandsOf x .c)) noVar)
-      (getD (g .vars) (effects.placeOf (effects.operandsOf x .d)) noVar)
-  pub same : triedBy found (mates (itemsOf (g .script)) (cellsOf (g .vars)) (g .spot .at) j)
+      ≡ operands.cellsOf (operands.operandsOf x) (getD (g .vars) (operands.placeOf (operands.operandsOf x .a)) noVar)
+      (getD (g .vars) (operands.placeOf (operands.operandsOf x .b)) noVar)
+      (getD (g .vars) (operands.placeOf (operands.operandsOf x .c)) noVar)
+      (getD (g .vars) (operands.placeOf (operands.operandsOf x .d)) noVar)
+  pub same : triedBy found (mates (itemsOf (g .table)) (cellsOf (g .vars)) (g .spot .at) j)
       ≡ triedBy (effects.tryFirst x k (g .spot .at))
-      (mates (itemsOf (g .script)) (cellsOf (g .vars)) (g .spot .at) (g .spot .at))
+      (mates (itemsOf (g .table)) (cellsOf (g .vars)) (g .spot .at) (g .spot .at))
 
 abbrev pub stageOf : {g : Stage} {c : Control} {o : Offer} {x : Item} {k : Cells} {found : Tried} {j : ℕ}
     → Trying g c o x k found j
@@ -184,17 +192,17 @@ stageOf {g} w = g
 
 pub trying-starts : {g : Stage} {c : Control} {o : Offer} {here : ℕ} {ops : Operands} {l : Places} {k : Cells}
     {found : Tried} → Turning g → here ≡ least (g .spot .at) 127
-    → ops ≡ effects.operandsOf ((getD (g .script .items) here noSlot) .item) → l ≡ effects.placesOf ops
-    → k ≡ effects.cellsOf ops (getD (g .vars) (l .a) noVar) (getD (g .vars) (l .b) noVar)
+    → ops ≡ operands.operandsOf ((getD (g .table .items) here noSlot) .item) → l ≡ operands.placesOf ops
+    → k ≡ operands.cellsOf ops (getD (g .vars) (l .a) noVar) (getD (g .vars) (l .b) noVar)
     (getD (g .vars) (l .c) noVar) (getD (g .vars) (l .d) noVar)
-    → found ≡ effects.tryFirst ((getD (g .script .items) here noSlot) .item) k (g .spot .at)
-    → Trying g c o ((getD (g .script .items) here noSlot) .item) k found (g .spot .at)
+    → found ≡ effects.tryFirst ((getD (g .table .items) here noSlot) .item) k (g .spot .at)
+    → Trying g c o ((getD (g .table .items) here noSlot) .item) k found (g .spot .at)
 trying-starts {g} {c} {o} {here} {ops} {l} {k} {found} w h e f q r = record {
   head = w;
-  item = ap (λ (n : ℕ). (getD (g .script .items) n noSlot) .item) h;
-  cells = cells-by (g .vars) ((getD (g .script .items) here noSlot) .item) ops l k e f q;
+  item = ap (λ (n : ℕ). (getD (g .table .items) n noSlot) .item) h;
+  cells = cells-by (g .vars) ((getD (g .table .items) here noSlot) .item) ops l k e f q;
   same =
-      ap (λ (z : Tried). triedBy z (mates (itemsOf (g .script)) (cellsOf (g .vars)) (g .spot .at) (g .spot .at))) r;
+      ap (λ (z : Tried). triedBy z (mates (itemsOf (g .table)) (cellsOf (g .vars)) (g .spot .at) (g .spot .at))) r;
 }
 
 module _ {g : Stage} {c : Control} {o : Offer} {x : Item} {k : Cells} {found : Tried} {j : ℕ}
@@ -202,34 +210,34 @@ module _ {g : Stage} {c : Control} {o : Offer} {x : Item} {k : Cells} {found : T
   pub mate-below : b ≡ true → (j < g .count) × (j < 128)
   mate-below y =
       let q : j < g .count = goes-on found j (g .count) (sym on ∙ y) .1 in
-      (q, omega (arith, q, w .head .count, least-most (g .script .count) 128))
+      (q, omega (arith, q, w .head .count, least-most (g .table .count) 128))
 
   -- one turn of the loop: the mate at j is read and tried
   pub trying-on : {ops : Operands} {l : Places} {k′ : Cells} {found′ : Tried} → b ≡ true
-      → ops ≡ effects.operandsOf ((getD (g .script .items) j noSlot) .item) → l ≡ effects.placesOf ops
-      → k′ ≡ effects.cellsOf ops (getD (g .vars) (l .a) noVar) (getD (g .vars) (l .b) noVar)
+      → ops ≡ operands.operandsOf ((getD (g .table .items) j noSlot) .item) → l ≡ operands.placesOf ops
+      → k′ ≡ operands.cellsOf ops (getD (g .vars) (l .a) noVar) (getD (g .vars) (l .b) noVar)
       (getD (g .vars) (l .a) noVar) (getD (g .vars) (l .b) noVar)
       → Seen (g .marks) (λ xs. (vs : Vars) (r : rules.Chosen)
-      → itemAt xs j ≡ (getD (g .script .items) j noSlot) .item → j < 128
-      → operandCell vs (effects.operandsOf ((getD (g .script .items) j noSlot) .item) .a) ≡ k′ .a
-      → operandCell vs (effects.operandsOf ((getD (g .script .items) j noSlot) .item) .b) ≡ k′ .b
+      → itemAt xs j ≡ (getD (g .table .items) j noSlot) .item → j < 128
+      → operandCell vs (operands.operandsOf ((getD (g .table .items) j noSlot) .item) .a) ≡ k′ .a
+      → operandCell vs (operands.operandsOf ((getD (g .table .items) j noSlot) .item) .b) ≡ k′ .b
       → triedBy found′ r ≡ triedAt xs vs (g .spot .at) j r)
       → Trying g c o x k found′ (j + 1)
   trying-on {ops} {l} {k′} {found′} y e f q tried =
-      let below : j < length (itemsOf (g .script)) =
-      rw (count-is (g .script) (w .head .full), ← (w .head .count)) (mate-below y .0) in
-      let two = two-by (g .vars) ((getD (g .script .items) j noSlot) .item) ops l k′ (w .head .row) e f q in
+      let below : j < length (itemsOf (g .table)) =
+      rw (count-is (g .table) (w .head .full), ← (w .head .count)) (mate-below y .0) in
+      let two = two-by (g .vars) ((getD (g .table .items) j noSlot) .item) ops l k′ (w .head .row) e f q in
       record {
         head = w .head;
         item = w .item;
         cells = w .cells;
         same =
-            tried-more found found′ (itemsOf (g .script)) (cellsOf (g .vars)) (g .spot .at) j
+            tried-more found found′ (itemsOf (g .table)) (cellsOf (g .vars)) (g .spot .at) j
             (triedBy (effects.tryFirst x k (g .spot .at))
-            (mates (itemsOf (g .script)) (cellsOf (g .vars)) (g .spot .at) (g .spot .at)))
+            (mates (itemsOf (g .table)) (cellsOf (g .vars)) (g .spot .at) (g .spot .at)))
             (goes-on found j (g .count) (sym on ∙ y) .0) below
-            (λ r. tried (itemsOf (g .script)) (w .head .marked) (cellsOf (g .vars)) r
-            (item-here (g .script) (w .head .full) j below) (mate-below y .1) (two .0) (two .1))
+            (λ r. tried (itemsOf (g .table)) (w .head .marked) (cellsOf (g .vars)) r
+            (item-here (g .table) (w .head .full) j below) (mate-below y .1) (two .0) (two .1))
             (w .same);
       }
 
@@ -238,7 +246,7 @@ module _ {g : Stage} {c : Control} {o : Offer} {x : Item} {k : Cells} {found : T
 -- the effect e, applied to the run, is the step
 pub record Effected (g : Stage) (c : Control) (o : Offer) (e : Effect) : Type 0 where
   pub head : Turning g
-  pub is : stepOf (leaveOuts (itemsOf (g .script)) (openAt (g .spot))) (cellsOf (g .vars)) e ≡ stepAt g c o
+  pub is : stepOf (leaveOuts (itemsOf (g .table)) (openAt (g .spot))) (cellsOf (g .vars)) e ≡ stepAt g c o
   pub deep : e .leaves ≡ true → g .spot .depth ≤ 8
 
 abbrev pub EffectedBy : {g : Stage} {c : Control} {o : Offer} {x : Item} {k : Cells} {found : Tried} {j : ℕ}
@@ -256,47 +264,47 @@ module _ {g : Stage} {c : Control} {o : Offer} {x : Item} {k : Cells} {found : T
   abbrev looks-at : Looked
   looks-at = record { item = x; cells = k; chosen = to; tag = g .tag; count = g .count; around = a }
 
-  all-counted : g .count ≡ length (itemsOf (g .script))
-  all-counted = w .head .count ∙ sym (count-is (g .script) (w .head .full))
+  all-counted : g .count ≡ length (itemsOf (g .table))
+  all-counted = w .head .count ∙ sym (count-is (g .table) (w .head .full))
 
-  looks-here : g .spot .depth ≤ 8 → g .spot .at < length (itemsOf (g .script))
-      → Here (itemsOf (g .script)) (cellsOf (g .vars)) (g .spot) looks-at
+  looks-here : g .spot .depth ≤ 8 → g .spot .at < length (itemsOf (g .table))
+      → Here (itemsOf (g .table)) (cellsOf (g .vars)) (g .spot) looks-at
   looks-here d q =
-      let item : itemAt (itemsOf (g .script)) (g .spot .at) ≡ x =
-      item-clamped (g .script) (w .head .full) (g .spot .at) q ∙ sym (w .item) in
-      let read = rw (← (w .cells)) at (reads-all (g .vars) (w .head .row) (effects.operandsOf x)) in
+      let item : itemAt (itemsOf (g .table)) (g .spot .at) ≡ x =
+      item-clamped (g .table) (w .head .full) (g .spot .at) q ∙ sym (w .item) in
+      let read = rw (← (w .cells)) at (reads-all (g .vars) (w .head .row) (operands.operandsOf x)) in
       record {
         item = item;
         read = read;
         chosen =
             ap chosenOf chosen
-            ∙ tried-all found (itemsOf (g .script)) (cellsOf (g .vars)) (g .spot .at) j (g .count) (sym on ∙ ended)
+            ∙ tried-all found (itemsOf (g .table)) (cellsOf (g .vars)) (g .spot .at) j (g .count) (sym on ∙ ended)
             (omega (arith, all-counted))
             ∙ w .same
-            ∙ first-tried (itemsOf (g .script)) (cellsOf (g .vars)) (g .spot) x k
-            (omega (arith, items-few (g .script) (w .head .full))) read;
-        around = around d (itemsOf (g .script)) (w .head .marked) .1 item;
+            ∙ first-tried (itemsOf (g .table)) (cellsOf (g .vars)) (g .spot) x k
+            (omega (arith, items-few (g .table) (w .head .full))) read;
+        around = around d (itemsOf (g .table)) (w .head .marked) .1 item;
       }
 
-  looks-up : g .spot .depth ≤ 8 → LooksUp (itemsOf (g .script)) (cellsOf (g .vars)) (g .spot) looks-at
+  looks-up : g .spot .depth ≤ 8 → LooksUp (itemsOf (g .table)) (cellsOf (g .vars)) (g .spot) looks-at
   looks-up d = record {
-    few = items-few (g .script) (w .head .full);
+    few = items-few (g .table) (w .head .full);
     deep = d;
     wide = w .head .wide;
     count = all-counted;
-    tag = w .head .tag ∙ tag-is (itemsOf (g .script)) (g .marks) (w .head .marked) (g .count) all-counted;
-    sweeping = around d (itemsOf (g .script)) (w .head .marked) .0;
+    tag = w .head .tag ∙ tag-is (itemsOf (g .table)) (g .marks) (w .head .marked) (g .count) all-counted;
+    sweeping = around d (itemsOf (g .table)) (w .head .marked) .0;
     here = looks-here d;
   }
 
   in-shape : g .shaped ≡ true → g .spot .depth ≤ 8
   in-shape =
-      known-deep (g .size) (g .script) (g .vars) (g .spot) (g .status) (g .shaped) (w .head .full) (w .head .known)
+      known-deep (g .size) (g .table) (g .vars) (g .spot) (g .status) (g .shaped) (w .head .full) (w .head .known)
 
   pub effected : {e : Effect} → e ≡ effects.effectOf (g .shaped) (g .spot) (g .status) looks-at c o → Effected g c o e
   effected {e} q = record {
     head = w .head;
-    is = rw q (effect-is (itemsOf (g .script)) (cellsOf (g .vars)) (g .spot) looks-at c o (g .shaped) (g .status)
+    is = rw q (effect-is (itemsOf (g .table)) (cellsOf (g .vars)) (g .spot) looks-at c o (g .shaped) (g .status)
         (λ z. looks-up (in-shape z)));
     deep = leaves-deep (g .shaped) (g .spot) (g .status) looks-at c o e in-shape q;
   }

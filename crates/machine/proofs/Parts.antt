@@ -3,19 +3,19 @@ use Prim.Native.Nat.{ℕ}
 use mathlib.Core.Path.{_≡_, refl, sym, ap, subst, _∙_}
 use mathlib.Core.Bool.{Bool, true, false, _&&_}
 use mathlib.Core.List.{List, [], _∷_, _++_, append-assoc}
-use Rattle.table.specs.declared.Script.{Script}
+use Rattle.table.specs.declared.Table.{Table}
 use Rattle.table.specs.Shape.{itemsOf}
 use Rattle.state.specs.declared.Control.{Control}
 use Rattle.state.specs.declared.Offer.{Offer}
-use Rattle.state.specs.declared.State.{State}
 use Rattle.state.specs.State as rules
-use Rattle.state.specs.State.{Run, Step, stays}
-use Rattle.state.specs.Meaning.{runOf, Neat}
-use Rattle.machine.specs.Machine.{step}
+use Rattle.state.specs.State.{State, Step, stays}
+use Rattle.state.specs.Meaning.{stateOf, Neat}
+use Rattle.state.specs.declared.State as coded
+use Rattle.steps.specs.Machine.{step}
 use Rattle.machine.specs.Course.{Course, andThen, runFrom, allStay, Comes}
 use Rattle.machine.specs.Parts.{followed, InParts, Chains, AllChain, courseOfAll}
-use Rattle.machine.proofs.Shapes.{and-l, and-r, and-assoc}
-use Rattle.machine.proofs.Answers.{never}
+use Rattle.steps.proofs.Shapes.{and-l, and-r, and-assoc}
+use Rattle.steps.proofs.Answers.{never}
 use Rattle.machine.proofs.Resting.{Alike, alike-neat, all-alike, comes-by}
 
 -- ---- the definition
@@ -39,39 +39,39 @@ stay-append k [] r = refl
 stay-append k (a ∷ l) r =
     ap (λ (b : Bool). stays k a && b) (stay-append k l r) ∙ sym (and-assoc (stays k a) (allStay k l) (allStay k r))
 
-module _ {size : ℕ} {t : Script} {m n k : State} {ps qs : List (Control × Offer)} {c d : Course}
+module _ {size : ℕ} {t : Table} {m n k : coded.State} {ps qs : List (Control × Offer)} {c d : Course}
     (e : Comes size t m ps c n) (f : Comes size t n qs d k) where
   abbrev first-stays : Bool
-  first-stays = allStay (runOf m .status) (c .answers)
+  first-stays = allStay (stateOf m .status) (c .answers)
 
   abbrev then-stays : Bool
-  then-stays = allStay (runOf m .status) (d .answers)
+  then-stays = allStay (stateOf m .status) (d .answers)
 
-  both : allStay (runOf m .status) (followed c d .answers) ≡ (first-stays && then-stays)
-  both = stay-append (runOf m .status) (c .answers) (d .answers)
+  both : allStay (stateOf m .status) (followed c d .answers) ≡ (first-stays && then-stays)
+  both = stay-append (stateOf m .status) (c .answers) (d .answers)
 
   first-alike : first-stays ≡ true → Alike n m
-  first-alike q = subst (λ (z : State). Alike z m) (sym (e .rests q)) (all-alike (itemsOf t) m ps (c .answers))
+  first-alike q = subst (λ (z : coded.State). Alike z m) (sym (e .rests q)) (all-alike (itemsOf t) m ps (c .answers))
 
-  then-alike : allStay (runOf n .status) (d .answers) ≡ true → Alike k n
-  then-alike q = subst (λ (z : State). Alike z n) (sym (f .rests q)) (all-alike (itemsOf t) n qs (d .answers))
+  then-alike : allStay (stateOf n .status) (d .answers) ≡ true → Alike k n
+  then-alike q = subst (λ (z : coded.State). Alike z n) (sym (f .rests q)) (all-alike (itemsOf t) n qs (d .answers))
 
-  as-before : first-stays ≡ true → allStay (runOf n .status) (d .answers) ≡ then-stays
+  as-before : first-stays ≡ true → allStay (stateOf n .status) (d .answers) ≡ then-stays
   as-before q = ap (λ (z : rules.Status). allStay z (d .answers)) (first-alike q .stood)
 
-  said : followed c d ≡ runFrom size t (runOf m) (ps ++ qs)
+  said : followed c d ≡ runFrom size t (stateOf m) (ps ++ qs)
   said =
       ap (λ (z : Course). followed c z) (f .says)
-      ∙ ap (λ (x : Run). followed c (runFrom size t x qs)) (e .means)
+      ∙ ap (λ (x : State). followed c (runFrom size t x qs)) (e .means)
       ∙ ap (λ (z : Course). followed z (runFrom size t (z .last) qs)) (e .says)
-      ∙ sym (in-parts size t (runOf m) ps qs)
+      ∙ sym (in-parts size t (stateOf m) ps qs)
 
   kept : (first-stays && then-stays) ≡ true → k .boxes ≡ m .boxes
   kept q =
       let a = and-l first-stays then-stays q in
       then-alike (as-before a ∙ and-r first-stays then-stays q) .row ∙ first-alike a .row
 
-  cleared : (a b : Bool) → first-stays ≡ a → allStay (runOf n .status) (d .answers) ≡ b
+  cleared : (a b : Bool) → first-stays ≡ a → allStay (stateOf n .status) (d .answers) ≡ b
       → (first-stays && then-stays) ≡ false → Neat k
   cleared a false p q z = f .neat q
   cleared false true p q z = alike-neat k n (then-alike q) (e .neat p)
@@ -81,7 +81,7 @@ module _ {size : ℕ} {t : Script} {m n k : State} {ps qs : List (Control × Off
   comes-on =
       comes-by size t m (ps ++ qs) (followed c d) k said (f .means)
       (λ q. kept (sym both ∙ q))
-      (λ q. cleared first-stays (allStay (runOf n .status) (d .answers)) refl refl (sym both ∙ q))
+      (λ q. cleared first-stays (allStay (stateOf n .status) (d .answers)) refl refl (sym both ∙ q))
 
 pub chains : Chains
 chains size t m ps qs r s e f = comes-on (e .comes) (f .comes)
@@ -91,5 +91,5 @@ chains size t m ps qs r s e f = comes-on (e .comes) (f .comes)
 pub all-chain : AllChain
 unfolding runFrom
 all-chain size t m [] h =
-    comes-by size t m [] (courseOfAll (runOf m) []) m refl refl (λ q. refl) (λ q. never true refl q)
+    comes-by size t m [] (courseOfAll (stateOf m) []) m refl refl (λ q. refl) (λ q. never true refl q)
 all-chain size t m (c ∷ cs) h = comes-on (h .0 .comes) (all-chain size t (c .1 .state) cs (h .1))

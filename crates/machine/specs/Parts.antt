@@ -3,12 +3,12 @@
 use Prim.Native.Nat.{ℕ}
 use mathlib.Core.Path.{_≡_}
 use mathlib.Core.List.{List, [], _∷_, _++_}
-use Rattle.table.specs.declared.Script.{Script}
+use Rattle.table.specs.declared.Table.{Table}
 use Rattle.state.specs.declared.Control.{Control}
 use Rattle.state.specs.declared.Offer.{Offer}
-use Rattle.state.specs.declared.State.{State}
-use Rattle.state.specs.State.{Run}
-use Rattle.state.specs.Meaning.{runOf}
+use Rattle.state.specs.State.{State}
+use Rattle.state.specs.Meaning.{stateOf}
+use Rattle.state.specs.declared.State as coded
 use Rattle.machine.specs.Course.{Ran, Course, runFrom, courseOf, Comes, ExactRun}
 
 -- one course, and the one that follows it
@@ -22,12 +22,12 @@ followed c d = record {
 
 -- stepping with ps and qs is stepping with ps, and then with qs from where that came
 abbrev pub InParts : Type 0
-InParts = (size : ℕ) (t : Script) (m : Run) (ps qs : List (Control × Offer))
+InParts = (size : ℕ) (t : Table) (m : State) (ps qs : List (Control × Offer))
     → runFrom size t m (ps ++ qs) ≡ followed (runFrom size t m ps) (runFrom size t (runFrom size t m ps .last) qs)
 
 -- two answers one after the other are the answer to the steps of both, to the last unused place of the state
 abbrev pub Chains : Type 0
-Chains = (size : ℕ) (t : Script) (m : State) (ps qs : List (Control × Offer)) (r s : Ran)
+Chains = (size : ℕ) (t : Table) (m : coded.State) (ps qs : List (Control × Offer)) (r s : Ran)
     → ExactRun size t m ps r
     → ExactRun size t (r .state) qs s
     → Comes size t m (ps ++ qs) (followed (courseOf r) (courseOf s)) (s .state)
@@ -39,7 +39,7 @@ abbrev pub Call : Type 0
 Call = List (Control × Offer) × Ran
 
 -- each from the state that the one before handed back
-abbrev pub Called : ℕ → Script → State → List Call → Type 0
+abbrev pub Called : ℕ → Table → coded.State → List Call → Type 0
 Called size t m [] = Unit {0}
 Called size t m (c ∷ cs) = ExactRun size t m (c .0) (c .1) × Called size t (c .1 .state) cs
 
@@ -47,16 +47,16 @@ abbrev pub stepsOfAll : List Call → List (Control × Offer)
 stepsOfAll [] = []
 stepsOfAll (c ∷ cs) = c .0 ++ stepsOfAll cs
 
-abbrev pub courseOfAll : Run → List Call → Course
+abbrev pub courseOfAll : State → List Call → Course
 courseOfAll m [] = record { answers = []; counts = []; outs = []; last = m }
-courseOfAll m (c ∷ cs) = followed (courseOf (c .1)) (courseOfAll (runOf (c .1 .state)) cs)
+courseOfAll m (c ∷ cs) = followed (courseOf (c .1)) (courseOfAll (stateOf (c .1 .state)) cs)
 
-abbrev pub lastOfAll : State → List Call → State
+abbrev pub lastOfAll : coded.State → List Call → coded.State
 lastOfAll m [] = m
 lastOfAll m (c ∷ cs) = lastOfAll (c .1 .state) cs
 
 -- all the answers together are those to all the steps
 abbrev pub AllChain : Type 0
-AllChain = (size : ℕ) (t : Script) (m : State) (cs : List Call)
+AllChain = (size : ℕ) (t : Table) (m : coded.State) (cs : List Call)
     → Called size t m cs
-    → Comes size t m (stepsOfAll cs) (courseOfAll (runOf m) cs) (lastOfAll m cs)
+    → Comes size t m (stepsOfAll cs) (courseOfAll (stateOf m) cs) (lastOfAll m cs)

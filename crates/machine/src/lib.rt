@@ -12,7 +12,7 @@ use state::State;
 use state::Stepped;
 use state::Thing;
 use state::What;
-use table::Script;
+use table::Table;
 
 mod around;
 mod pieces;
@@ -51,12 +51,12 @@ pub struct Ran {
 }
 
 // One step: the script's bytes, its table, the state, a control and an offer.
-pub fn step(text: &[u8], script: Script, state: State, control: Control, offer: Offer) -> Stepped
-    ensures { λ r. ⌜ Exact (length (now (text .entry))) script state control offer r ⌝ }
+pub fn step(text: &[u8], table: Table, state: State, control: Control, offer: Offer) -> Stepped
+    ensures { λ r. ⌜ Exact (length (now (text .entry))) table state control offer r ⌝ }
 {
-    let survey = mates::survey_of(text.len(), script);
+    let survey = mates::survey_of(text.len(), table);
     let marks = survey.marks;
-    let count = pieces::at_most(script.count, ITEMS);
+    let count = pieces::at_most(table.count, ITEMS);
     let shaped = survey.shaped & shape::state_ok(marks, count, state);
     let tag = mates::first_tag(marks, count);
     let mut vars = state.vars;
@@ -64,10 +64,10 @@ pub fn step(text: &[u8], script: Script, state: State, control: Control, offer: 
     let status = state.status;
     let at = spot.at;
     let here = pieces::at_most(at, LAST_ITEM);
-    let slot = script.items[here];
+    let slot = table.items[here];
     let item = slot.item;
-    let ops = effect::operands_of(item);
-    let places = effect::places_of(ops);
+    let ops = operands::operands_of(item);
+    let places = operands::places_of(ops);
     let pa = places.a;
     let va = vars[pa];
     let pb = places.b;
@@ -76,19 +76,19 @@ pub fn step(text: &[u8], script: Script, state: State, control: Control, offer: 
     let vc = vars[pc];
     let pd = places.d;
     let vd = vars[pd];
-    let cells = effect::cells_of(ops, va, vb, vc, vd);
+    let cells = operands::cells_of(ops, va, vb, vc, vd);
     let mut found = effect::try_first(item, cells, at);
     let mut j = at;
     while effect::tries_on(found, j, count) {
-        let mate = script.items[j];
+        let mate = table.items[j];
         let x = mate.item;
-        let mops = effect::operands_of(x);
-        let mplaces = effect::places_of(mops);
+        let mops = operands::operands_of(x);
+        let mplaces = operands::places_of(mops);
         let qa = mplaces.a;
         let ua = vars[qa];
         let qb = mplaces.b;
         let ub = vars[qb];
-        let tested = effect::cells_of(mops, ua, ub, ua, ub);
+        let tested = operands::cells_of(mops, ua, ub, ua, ub);
         found = around::try_at(marks, x, tested, at, j);
         j += 1;
     }
@@ -102,13 +102,13 @@ pub fn step(text: &[u8], script: Script, state: State, control: Control, offer: 
     };
     let e = effect::effect_of(shaped, spot, status, looked, control, offer);
     let first = e.first;
-    let p = effect::write_place(first);
+    let p = operands::write_place(first);
     let vp = vars[p];
-    vars[p] = effect::write_over(first, vp);
+    vars[p] = operands::write_over(first, vp);
     let second = e.second;
-    let q = effect::write_place(second);
+    let q = operands::write_place(second);
     let vq = vars[q];
-    vars[q] = effect::write_over(second, vq);
+    vars[q] = operands::write_over(second, vq);
     let mut things = state::no_things();
     let mut handed: usize = 0;
     let from = handed;
@@ -141,13 +141,13 @@ pub fn step(text: &[u8], script: Script, state: State, control: Control, offer: 
 
 // The first steps of those told, as many as the budget allows, one after the other. A step from a state in shape leaves
 // one in shape, so that table and state are judged once; the names' row and the spot stay locals of the loop.
-pub fn run(text: &[u8], script: Script, state: State, steps: Steps, budget: usize) -> Ran
-    ensures { λ r. ⌜ ExactRun (length (now (text .entry))) script state (take budget (stepsOf steps)) r ⌝ }
+pub fn run(text: &[u8], table: Table, state: State, steps: Steps, budget: usize) -> Ran
+    ensures { λ r. ⌜ ExactRun (length (now (text .entry))) table state (take budget (stepsOf steps)) r ⌝ }
 {
     let n = pieces::at_most(pieces::at_most(budget, steps.count), MOST_STEPS);
-    let survey = mates::survey_of(text.len(), script);
+    let survey = mates::survey_of(text.len(), table);
     let marks = survey.marks;
-    let count = pieces::at_most(script.count, ITEMS);
+    let count = pieces::at_most(table.count, ITEMS);
     let shaped = survey.shaped & shape::state_ok(marks, count, state);
     let tag = mates::first_tag(marks, count);
     let mut answers = [Said {
@@ -169,10 +169,10 @@ pub fn run(text: &[u8], script: Script, state: State, steps: Steps, budget: usiz
         let offer = told.offer;
         let at = spot.at;
         let here = pieces::at_most(at, LAST_ITEM);
-        let slot = script.items[here];
+        let slot = table.items[here];
         let item = slot.item;
-        let ops = effect::operands_of(item);
-        let places = effect::places_of(ops);
+        let ops = operands::operands_of(item);
+        let places = operands::places_of(ops);
         let pa = places.a;
         let va = vars[pa];
         let pb = places.b;
@@ -181,19 +181,19 @@ pub fn run(text: &[u8], script: Script, state: State, steps: Steps, budget: usiz
         let vc = vars[pc];
         let pd = places.d;
         let vd = vars[pd];
-        let cells = effect::cells_of(ops, va, vb, vc, vd);
+        let cells = operands::cells_of(ops, va, vb, vc, vd);
         let mut found = effect::try_first(item, cells, at);
         let mut j = at;
         while effect::tries_on(found, j, count) {
-            let mate = script.items[j];
+            let mate = table.items[j];
             let x = mate.item;
-            let mops = effect::operands_of(x);
-            let mplaces = effect::places_of(mops);
+            let mops = operands::operands_of(x);
+            let mplaces = operands::places_of(mops);
             let qa = mplaces.a;
             let ua = vars[qa];
             let qb = mplaces.b;
             let ub = vars[qb];
-            let tested = effect::cells_of(mops, ua, ub, ua, ub);
+            let tested = operands::cells_of(mops, ua, ub, ua, ub);
             found = around::try_at(marks, x, tested, at, j);
             j += 1;
         }
@@ -207,13 +207,13 @@ pub fn run(text: &[u8], script: Script, state: State, steps: Steps, budget: usiz
         };
         let e = effect::effect_of(shaped, spot, status, looked, control, offer);
         let first = e.first;
-        let p = effect::write_place(first);
+        let p = operands::write_place(first);
         let vp = vars[p];
-        vars[p] = effect::write_over(first, vp);
+        vars[p] = operands::write_over(first, vp);
         let second = e.second;
-        let q = effect::write_place(second);
+        let q = operands::write_place(second);
         let vq = vars[q];
-        vars[q] = effect::write_over(second, vq);
+        vars[q] = operands::write_over(second, vq);
         let from = handed;
         let one = e.one;
         things[handed] = Thing { what: one };

@@ -1,7 +1,7 @@
 // The state's parts: where it stands, what is put together after steps, and how many there are of something.
 ghost use mathlib.Core.Path.{_≡_};
-ghost use Rattle.state.specs.Meaning.{runOf, cellsOf};
-ghost use Rattle.machine.specs.Code.{runWith, countOf, LeftAs, least};
+ghost use Rattle.state.specs.Meaning.{stateOf, cellsOf};
+ghost use Rattle.steps.specs.Code.{stateWith, countOf, LeftAs, least};
 use effect::Spot;
 use state::State;
 use state::Status;
@@ -15,7 +15,7 @@ pub(crate) fn at_most(n: usize, most: usize) -> usize
 }
 
 pub(crate) fn spot_of(m: State) -> Spot
-    ensures { λ r. ⌜ (runWith (cellsOf (m .vars)) r (m .status) ≡ runOf m) × (r .boxes ≡ m .boxes) ⌝ }
+    ensures { λ r. ⌜ (stateWith (cellsOf (m .vars)) r (m .status) ≡ stateOf m) × (r .boxes ≡ m .boxes) ⌝ }
 {
     let boxes = m.boxes;
     Spot {

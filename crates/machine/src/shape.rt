@@ -3,9 +3,9 @@ ghost use mathlib.Core.Path.{_≡_};
 ghost use Prim.Native.Nat.{_≤_};
 ghost use lib.ListN.{length};
 ghost use Rattle.mates.specs.Code.{Seen};
-ghost use Rattle.state.specs.Meaning.{runOf};
-ghost use Rattle.machine.specs.Machine.{opensOk, runOk};
-ghost use Rattle.machine.specs.Code.{boxOk};
+ghost use Rattle.state.specs.Meaning.{stateOf};
+ghost use Rattle.steps.specs.Machine.{opensOk, stateOk};
+ghost use Rattle.steps.specs.Code.{boxOk};
 use mates::Marks;
 use state::State;
 
@@ -26,7 +26,7 @@ fn box_ok(marks: Marks, n: usize, p: usize) -> bool
 
 fn opens_ok(marks: Marks, n: usize, m: State) -> bool
     requires { ⌜ m .depth ≤ 8 ⌝ }
-    ensures { λ r. ⌜ Seen (marks .at) (λ xs. length xs ≡ n → r ≡ opensOk xs (runOf m .boxes)) ⌝ }
+    ensures { λ r. ⌜ Seen (marks .at) (λ xs. length xs ≡ n → r ≡ opensOk xs (stateOf m .boxes)) ⌝ }
 {
     let mut k = m.depth;
     while 0 < k {
@@ -41,7 +41,7 @@ fn opens_ok(marks: Marks, n: usize, m: State) -> bool
 
 // The state is in shape, for a text of n items.
 pub(crate) fn state_ok(marks: Marks, n: usize, m: State) -> bool
-    ensures { λ r. ⌜ Seen (marks .at) (λ xs. length xs ≡ n → r ≡ runOk xs (runOf m)) ⌝ }
+    ensures { λ r. ⌜ Seen (marks .at) (λ xs. length xs ≡ n → r ≡ stateOk xs (stateOf m)) ⌝ }
 {
     let at = m.at;
     let d = m.depth;

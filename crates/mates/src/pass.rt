@@ -10,8 +10,8 @@ use super::Role;
 use super::Survey;
 use table::Head;
 use table::Item;
-use table::Script;
 use table::Sort;
+use table::Table;
 
 const ITEMS: usize = 128;
 
@@ -129,11 +129,11 @@ fn at_most(n: usize, most: usize) -> usize
 }
 
 // One pass over a table.
-pub fn survey_of(size: usize, script: Script) -> Survey
-    ensures { λ r. ⌜ Surveyed size script r ⌝ }
+pub fn survey_of(size: usize, table: Table) -> Survey
+    ensures { λ r. ⌜ Surveyed size table r ⌝ }
 {
-    let names = script.names;
-    let count = script.count;
+    let names = table.names;
+    let count = table.count;
     let mut boxes = [Open {
         at: 0,
         sort: Sort::If,
@@ -147,7 +147,7 @@ pub fn survey_of(size: usize, script: Script) -> Survey
     let n = at_most(count, ITEMS);
     let mut j: usize = 0;
     while j < n {
-        let slot = script.items[j];
+        let slot = table.items[j];
         let x = slot.item;
         let place = top_place(depth);
         let top = boxes[place];

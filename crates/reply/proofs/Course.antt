@@ -31,7 +31,7 @@ pub record Place : Type 0 where
   pub number : ℕ
   pub used : ℕ
   pub state : Open
-  pub inside : ℕ
+  pub holder : ℕ
   pub rows : List Row
 
 module _ (n : ℕ) where
@@ -42,8 +42,8 @@ module _ (n : ℕ) where
         number = p .number + 1;
         used = x;
         state = step n l (p .state) .state;
-        inside = insideAfter l (p .inside) (p .rows);
-        rows = rowsAfter l (p .inside) (p .rows);
+        holder = insideAfter l (p .holder) (p .rows);
+        rows = rowsAfter l (p .holder) (p .rows);
       }
 
   -- what is still to come, of the lines ls
@@ -51,7 +51,7 @@ module _ (n : ℕ) where
   saysFrom p ls = verdictFrom n (p .number) (p .used) (p .state) ls
 
   abbrev pub makesFrom : Place → List (List ℕ) → List Row
-  makesFrom p ls = rowsFrom n (p .number) (p .state) (p .inside) (p .rows) ls
+  makesFrom p ls = rowsFrom n (p .number) (p .state) (p .holder) (p .rows) ls
 
   abbrev pub readsFrom : Place → List (List ℕ) → List Line
   readsFrom p ls = seenFrom n (p .number) (p .state) ls

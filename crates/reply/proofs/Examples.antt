@@ -4,7 +4,7 @@ use mathlib.Core.Path.{_≡_, refl}
 use Prim.Native.Nat.{ℕ}
 use Rattle.text.specs.Cut.{cut}
 use Rattle.text.specs.Hex.{digitValue, hexFrom, readHex}
-use Rattle.reply_line.specs.declared.Kind.the-variants as Kind
+use Rattle.reply_line.specs.declared.RowKind.the-variants as RowKind
 use Rattle.reply_line.specs.Line.{numberOf, letterOf, aloneIn, markOf, markLine, withRow, isE, firstLine}
 use Rattle.reply_line.specs.Line.{byFirst, laterLine, lineAt}
 use Rattle.reply_step.specs.Step.{closes, step}
@@ -20,7 +20,7 @@ unfolding outcomeOf meaning verdict verdictFrom step closes letterOf lineAt firs
     aloneIn markLine markOf readHex hexFrom digitValue cut
 listed-outcome = refl
 
-pub listed-rows : rowsOf 1024 listed ≡ scriptRow ∷ newRow Kind.Measuring 0 0 ∷ []
+pub listed-rows : rowsOf 1024 listed ≡ scriptRow ∷ newRow RowKind.Sweep 0 0 ∷ []
 unfolding rowsOf rowsFrom rowsAfter insideAfter step closes letterOf lineAt firstLine laterLine byFirst isE withRow
     aloneIn markLine markOf readHex hexFrom digitValue cut
 listed-rows = refl

@@ -11,8 +11,8 @@ use lib.Dec.{eqb}
 use lib.ListN.{length, take, drop, getD, set, length-set}
 use Rattle.text.specs.Put.{put}
 use Rattle.text.proofs.Put.{length-put, put-more}
-use Rattle.reply_line.specs.declared.Kind.{Kind}
-use Rattle.reply_line.specs.declared.Kind.the-variants as Kind
+use Rattle.reply_line.specs.declared.RowKind.{RowKind}
+use Rattle.reply_line.specs.declared.RowKind.the-variants as RowKind
 use Rattle.reply_line.specs.Line.{letterOf}
 use Rattle.reply.specs.declared.Answer.{Answer}
 use Rattle.reply.specs.declared.Answer.the-variants as Answer
@@ -61,25 +61,25 @@ at-row (r ∷ rows) rest (suc i) k h f =
     let e : suc i * 4 + k ≡ suc (suc (suc (suc (i * 4 + k)))) = omega arith in
     ap (λ (m : ℕ). getD (listed (r ∷ rows) ++ rest) m 0) e ∙ at-row rows rest i k (omega arith) f
 
-kind-back : (k : Kind) → kindOf (letterOf k) ≡ k
+kind-back : (k : RowKind) → kindOf (letterOf k) ≡ k
 unfolding kindOf letterOf
-kind-back Kind.Script = refl
-kind-back Kind.Measuring = refl
-kind-back Kind.Plain = refl
+kind-back RowKind.Script = refl
+kind-back RowKind.Sweep = refl
+kind-back RowKind.Loop = refl
 
 -- by the tests that the code makes
-module _ (x m p : ℕ) (measuring : m ≡ letterOf Kind.Measuring) (plain : p ≡ letterOf Kind.Plain)
+module _ (x m p : ℕ) (measuring : m ≡ letterOf RowKind.Sweep) (plain : p ≡ letterOf RowKind.Loop)
     (not-m : x ≡ m → ⊥) where
-  other : eqb x (letterOf Kind.Measuring) ≡ false
-  other = ne-eqb x (letterOf Kind.Measuring) (λ e. not-m (e ∙ sym measuring))
+  other : eqb x (letterOf RowKind.Sweep) ≡ false
+  other = ne-eqb x (letterOf RowKind.Sweep) (λ e. not-m (e ∙ sym measuring))
 
-  pub kind-plain : x ≡ p → Kind.Plain ≡ kindOf x
+  pub kind-plain : x ≡ p → RowKind.Loop ≡ kindOf x
   unfolding kindOf
-  kind-plain e = rw (other, eq-eqb x (letterOf Kind.Plain) (e ∙ plain)) refl
+  kind-plain e = rw (other, eq-eqb x (letterOf RowKind.Loop) (e ∙ plain)) refl
 
-  pub kind-script : (x ≡ p → ⊥) → Kind.Script ≡ kindOf x
+  pub kind-script : (x ≡ p → ⊥) → RowKind.Script ≡ kindOf x
   unfolding kindOf
-  kind-script n = rw (other, ne-eqb x (letterOf Kind.Plain) (λ e. n (e ∙ sym plain))) refl
+  kind-script n = rw (other, ne-eqb x (letterOf RowKind.Loop) (λ e. n (e ∙ sym plain))) refl
 
 same-row : (lent : List ℕ) (rows : List Row) (i : ℕ) → i < length rows
     → rowAt (put lent 0 (listed rows)) i ≡ getD rows i scriptRow

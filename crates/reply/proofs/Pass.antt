@@ -9,7 +9,7 @@ use borrow.Author.Tests.{lt-ltb, le-ltb, ne-eqb}
 use lib.ListN.{length, take, drop, getD, set, length-set, length-append}
 use lib.Seq.{set-getD}
 use Rattle.text.specs.Cut.{lines}
-use Rattle.reply_line.specs.declared.Kind.{Kind}
+use Rattle.reply_line.specs.declared.RowKind.{RowKind}
 use Rattle.reply_line.specs.declared.Line.{Line}
 use Rattle.reply_line.specs.declared.Line.the-variants as Line
 use Rattle.reply_line.specs.declared.Refusal.{Refusal}
@@ -26,7 +26,8 @@ use Rattle.reply.specs.declared.Seen.{Seen}
 use Rattle.reply.specs.declared.Stand.{Stand}
 use Rattle.reply.specs.Code.{seenAt, placeBy, oneMore, raisedRow, changeBy, clamp, placeIn, turned}
 use Rattle.reply.specs.Code.{Memory, turnIn, memoryAfter, passFrom}
-use Rattle.reply.specs.Rows.{scriptRow, newRow, raised, rowsAfter, insideAfter, isOpening, isPackage, packagesOf}
+use Rattle.reply.specs.Rows.{scriptRow, newRow, raised, rowsAfter, insideAfter, isOpening, isPackage}
+use Rattle.reply.specs.Rows.{packagesOf}
 use Rattle.reply.proofs.Course.{Place, past, saysFrom, makesFrom, Met, standing, rows-on, rows-ended}
 use Rattle.reply.proofs.Course.{Leads, on, ends, leads}
 use Rattle.reply.proofs.Rows.{Sound, sound-step, length-after, total-after, one-of, used-more}
@@ -95,13 +96,13 @@ module _ {X : Type 0} (m : Memory X) (n : ℕ) where
   -- what the turn makes is what the definition makes
   record Turned (show : List Row → X) (l : Line) (at : ℕ) (rows : List Row) : Type 0 where
     memory : putFor (length rows) l at (show rows) ≡ show (rowsAfter l at rows)
-    inside : changeFor (length rows) l at (show rows) .inside ≡ insideAfter l at rows
+    holder : changeFor (length rows) l at (show rows) .holder ≡ insideAfter l at rows
     count : changeFor (length rows) l at (show rows) .rows ≡ length (rowsAfter l at rows)
 
 module _ {X : Type 0} {m : Memory X} {n : ℕ} {show : List Row → X} (w : Shows m n show)
     {o : Open} {at : ℕ} {rows : List Row} (g : Held o at n rows) where
   within : at < length rows
-  within = g .sound .inside
+  within = g .sound .holder
 
   place : clamp n at ≡ at
   place = clamped n at (omega (arith, g .fit, within))
@@ -130,11 +131,11 @@ module _ {X : Type 0} {m : Memory X} {n : ℕ} {show : List Row → X} (w : Show
             ∙ ap (m .put (show rows) at) (is-raised (getD rows at scriptRow) few-in)
             ∙ w .over rows at (raised (getD rows at scriptRow)) within
             (record { parent = small .parent; packages = omega (arith, few-in) });
-        inside = refl;
+        holder = refl;
         count = sym (length-set rows at (raised (getD rows at scriptRow)));
       }
 
-  turned-opens : (k : Kind) (v : ℕ) → o .rows < n → Turned m n show (Line.Opens k v) at rows
+  turned-opens : (k : RowKind) (v : ℕ) → o .rows < n → Turned m n show (Line.Opens k v) at rows
   unfolding placeBy changeBy rowsAfter insideAfter
   turned-opens k v more =
       let room : length rows < n = omega (arith, g .sound .counted) in
@@ -142,17 +143,17 @@ module _ {X : Type 0} {m : Memory X} {n : ℕ} {show : List Row → X} (w : Show
         memory = ap (λ (p : ℕ). m .put (show rows) p (newRow k v at)) (clamped n (length rows) room)
             ∙ w .behind rows (newRow k v at) room
             (record { parent = omega (arith, g .few, within); packages = omega arith });
-        inside = refl;
+        holder = refl;
         count = more-by-one (length rows) (omega (arith, g .few)) ∙ sym (length-append rows (newRow k v at ∷ []));
       }
 
   turned-on : (l : Line) → LeadsOn n o l → Turned m n show l at rows
   unfolding placeBy changeBy rowsAfter insideAfter
-  turned-on Line.Quiet y = record { memory = put-back; inside = refl; count = refl }
+  turned-on Line.Quiet y = record { memory = put-back; holder = refl; count = refl }
   turned-on Line.Empty y = absurd y
   turned-on Line.Package y = turned-package
   turned-on (Line.Opens k v) y = turned-opens k v y
-  turned-on (Line.Closes k) y = record { memory = put-back; inside = ap (λ (r : Row). r .parent) old-row; count = refl }
+  turned-on (Line.Closes k) y = record { memory = put-back; holder = ap (λ (r : Row). r .parent) old-row; count = refl }
   turned-on (Line.Error v) y = absurd y
   turned-on (Line.Refused r) y = absurd y
 
@@ -192,7 +193,7 @@ later s end a pos at count =
       end = end;
       line = seenAt s end pos .line;
       next = seenAt s end pos .next;
-      inside = at;
+      holder = at;
       rows = count;
       answer = a;
     }
@@ -202,13 +203,13 @@ module _ {X : Type 0} (m : Memory X) (s : List ℕ) (n end : ℕ) (a : Answer) w
       → record { line = l; next = next } ≡ seenAt s end pos
       → passFrom m (suc f) s n (later s end a pos at count) x
       ≡ passFrom m f s n
-      (later s end a next (changeFor m n count l at x .inside) (changeFor m n count l at x .rows))
+      (later s end a next (changeFor m n count l at x .holder) (changeFor m n count l at x .rows))
       (putFor m n count l at x)
   unfolding turned placeIn
   turn-by f pos at count x l next h q =
       one-turn m s n f (later s end a pos at count) x h
       ∙ sym (ap (λ (y : Seen). passFrom m f s n
-      (later s end a (y .next) (changeFor m n count (y .line) at x .inside) (changeFor m n count (y .line) at x .rows))
+      (later s end a (y .next) (changeFor m n count (y .line) at x .holder) (changeFor m n count (y .line) at x .rows))
       (putFor m n count (y .line) at x)) q)
 
 -- ---- a line of a good reply is the same where it is not judged again
@@ -241,7 +242,7 @@ seen-here {s} {n} {p} {l} {x} m end h fine =
 -- at a line that is not the first, of a reply that is read
 pub record Going (s : List ℕ) (n c u r : ℕ) (p : Place) : Type 0 where
   pub second : 2 ≤ p .number
-  pub sound : Sound (p .state) (p .inside) (p .rows)
+  pub sound : Sound (p .state) (p .holder) (p .rows)
   pub fit : length (p .rows) ≤ n
   pub few : length (p .rows) + packagesOf (p .rows) ≤ p .used
   pub good : saysFrom n p (lines (drop (p .used) s)) ≡ Answer.Read c u r
@@ -273,8 +274,8 @@ module _ {s : List ℕ} {n c u r : ℕ} {p : Place} (g : Going s n c u r p) {l :
   going-on : step n l (p .state) .to ≡ Move.On → saysFrom n (past n l x p) (lines (drop x s)) ≡ Answer.Read c u r
       → Going s n c u r (past n l x p)
   going-on e good =
-      let long : length (rowsAfter l (p .inside) (p .rows)) ≡ length (p .rows) + isOpening l =
-      length-after l (p .inside) (p .rows) in
+      let long : length (rowsAfter l (p .holder) (p .rows)) ≡ length (p .rows) + isOpening l =
+      length-after l (p .holder) (p .rows) in
       record {
         second = omega (arith, g .second);
         sound = sound-step (g .sound) n l e;
@@ -290,12 +291,12 @@ module _ {s : List ℕ} {n c u r : ℕ} {p : Place} (g : Going s n c u r p) {l :
           standing d .next,
           long,
           at-most-one l,
-          total-after l (p .inside) (p .rows) (g .sound .inside),
+          total-after l (p .holder) (p .rows) (g .sound .holder),
         );
         good = good;
       }
 
-  held : length s ≤ 65536 → Held (p .state) (p .inside) n (p .rows)
+  held : length s ≤ 65536 → Held (p .state) (p .holder) n (p .rows)
   held short =
       record {
         sound = g .sound;
@@ -306,7 +307,7 @@ module _ {s : List ℕ} {n c u r : ℕ} {p : Place} (g : Going s n c u r p) {l :
 module _ {X : Type 0} {m : Memory X} {n : ℕ} {show : List Row → X} (w : Shows m n show) (s : List ℕ) (c u r : ℕ)
     (short : length s ≤ 65536) where
   abbrev at-place : Place → Stand
-  at-place p = later s u (Answer.Read c u r) (p .used) (p .inside) (length (p .rows))
+  at-place p = later s u (Answer.Read c u r) (p .used) (p .holder) (length (p .rows))
 
   -- with turns enough, the pass makes of the rows so far what the lines still make of them
   pub bridge : (f : ℕ) (p : Place) → u ≤ p .used + f → Going s n c u r p
@@ -325,15 +326,15 @@ module _ {X : Type 0} {m : Memory X} {n : ℕ} {show : List Row → X} (w : Show
           → passFrom m f s n (at-place q) (show (q .rows)) ≡ show (makesFrom n q (lines (drop (q .used) s))))
           → passFrom m (suc f) s n (at-place p) (show (p .rows)) ≡ show (makesFrom n p (lines (drop (p .used) s)))
       by-lead (on l x d e good) ih =
-          let t : Turned m n show l (p .inside) (p .rows) =
+          let t : Turned m n show l (p .holder) (p .rows) =
           turned-on w (held g d short) l (onward n (p .state) l e .may) in
-          turn-by m s n u (Answer.Read c u r) f (p .used) (p .inside) (length (p .rows)) (show (p .rows)) l x left
+          turn-by m s n u (Answer.Read c u r) f (p .used) (p .holder) (length (p .rows)) (show (p .rows)) l x left
           (seen-here d u (g .second) (λ v q. refused-not-on (sym q ∙ e)))
-          ∙ (λ i. passFrom m f s n (later s u (Answer.Read c u r) x (t .inside i) (t .count i)) (t .memory i))
+          ∙ (λ i. passFrom m f s n (later s u (Answer.Read c u r) x (t .holder i) (t .count i)) (t .memory i))
           ∙ ih (past n l x p) (omega (arith, standing d .end, standing d .next)) (going-on g d e good)
           ∙ sym (ap show (rows-on d e))
       by-lead (ends l v d e) ih =
-          turn-by m s n u (Answer.Read c u r) f (p .used) (p .inside) (length (p .rows)) (show (p .rows)) l u left
+          turn-by m s n u (Answer.Read c u r) f (p .used) (p .holder) (length (p .rows)) (show (p .rows)) l u left
           (seen-here d u (g .second) (λ y q. refused-not-ends (sym q ∙ e)))
           ∙ no-turn m s n f (later s u (Answer.Read c u r) u _ _) _ (omega arith)
           ∙ kept-at-end w (held g d short) l (ending n (p .state) l e)

@@ -8,7 +8,7 @@ use Prim.Native.Nat.{ℕ, zero, suc, _+_, _≤_, _<_}
 use lib.ListN.{length, getD, set, length-set, length-append, List·getD-append, List·getD-eq-default}
 use lib.Seq.{getD-set-same, getD-set-other, getD-at}
 use Rattle.text.specs.Cut.{lines}
-use Rattle.reply_line.specs.declared.Kind.{Kind}
+use Rattle.reply_line.specs.declared.RowKind.{RowKind}
 use Rattle.reply_line.specs.declared.Line.{Line}
 use Rattle.reply_line.specs.declared.Line.the-variants as Line
 use Rattle.reply_step.specs.declared.Move.the-variants as Move
@@ -29,13 +29,13 @@ rowAt rows i = getD rows i scriptRow
 
 pub record Sound (o : Open) (at : ℕ) (rows : List Row) : Type 0 where
   pub counted : o .rows ≡ length rows
-  pub inside : at < length rows
+  pub holder : at < length rows
   pub own : getD rows 0 scriptRow .parent ≡ 0
   pub up : (i : ℕ) → i < length rows → 0 < i → getD rows i scriptRow .parent < i
 
 module _ {o : Open} {at : ℕ} {rows : List Row} (g : Sound o at rows) where
   -- an opening mark: one row more, whose parent is the innermost
-  module _ (k : Kind) (v : ℕ) where
+  module _ (k : RowKind) (v : ℕ) where
     abbrev longer : List Row
     longer = rows ++ (newRow k v at ∷ [])
 
@@ -50,14 +50,14 @@ module _ {o : Open} {at : ℕ} {rows : List Row} (g : Sound o at rows) where
     parent-before i h p (no q) =
         let e : length rows ≡ i = omega (arith, one-longer) in
         subst (λ (r : Row). r .parent < i) (sym (getD-at rows (newRow k v at) [] scriptRow i e))
-        (subst (λ (m : ℕ). at < m) e (g .inside))
+        (subst (λ (m : ℕ). at < m) e (g .holder))
 
     sound-open : Sound (opened k o) (length rows) longer
     sound-open =
         record {
           counted = ap (λ (m : ℕ). m + 1) (g .counted) ∙ sym one-longer;
-          inside = omega (arith, one-longer);
-          own = ap (λ (r : Row). r .parent) (same-row 0 (omega (arith, g .inside))) ∙ g .own;
+          holder = omega (arith, one-longer);
+          own = ap (λ (r : Row). r .parent) (same-row 0 (omega (arith, g .holder))) ∙ g .own;
           up = λ i h p. parent-before i h p (decLt i (length rows));
         }
 
@@ -81,14 +81,14 @@ module _ {o : Open} {at : ℕ} {rows : List Row} (g : Sound o at rows) where
       by-place (no p) (no q) =
           let e : i ≡ at = omega arith in
           subst (λ (m : ℕ). rowAt counting m .parent ≡ rowAt rows m .parent) (sym e)
-          (ap (λ (r : Row). r .parent) (getD-set-same rows at (raised (rowAt rows at)) scriptRow (g .inside)))
+          (ap (λ (r : Row). r .parent) (getD-set-same rows at (raised (rowAt rows at)) scriptRow (g .holder)))
 
   sound-package : Sound o at counting
   sound-package =
       record {
         counted = g .counted ∙ sym as-long;
-        inside = omega (arith, as-long, g .inside);
-        own = same-parents 0 (omega (arith, g .inside)) ∙ g .own;
+        holder = omega (arith, as-long, g .holder);
+        own = same-parents 0 (omega (arith, g .holder)) ∙ g .own;
         up = λ i h p.
             subst (λ (m : ℕ). m < i) (sym (same-parents i (omega (arith, as-long))))
             (g .up i (omega (arith, as-long)) p);
@@ -96,7 +96,7 @@ module _ {o : Open} {at : ℕ} {rows : List Row} (g : Sound o at rows) where
 
   -- a closing mark leads back to the parent, which is a row too
   sound-close : Sound (closed o) (rowAt rows at .parent) rows
-  sound-close = record { counted = g .counted; inside = back at (g .inside); own = g .own; up = g .up }
+  sound-close = record { counted = g .counted; holder = back at (g .holder); own = g .own; up = g .up }
     where
       back : (i : ℕ) → i < length rows → rowAt rows i .parent < length rows
       back zero h = subst (λ (m : ℕ). m < length rows) (sym (g .own)) h
@@ -121,7 +121,7 @@ module _ {o : Open} {at : ℕ} {rows : List Row} (g : Sound o at rows) where
       (sound-after n l (y .may))
 
 pub sound-begun : Sound begun 0 (scriptRow ∷ [])
-sound-begun = record { counted = refl; inside = omega arith; own = refl; up = λ i h p. absurd (none i h p) }
+sound-begun = record { counted = refl; holder = omega arith; own = refl; up = λ i h p. absurd (none i h p) }
   where
     none : (i : ℕ) → i < 1 → 0 < i → ⊥
     none i h p = omega arith
@@ -194,7 +194,7 @@ pub record Right (n : ℕ) (p : Place) (out : List Row) (seen : List Line) (v : 
   pub fits : {c u r : ℕ} → p .state .rows ≤ n → v ≡ Answer.Read c u r → r ≤ n
 
 abbrev SoundAt : Place → Type 0
-SoundAt p = Sound (p .state) (p .inside) (p .rows)
+SoundAt p = Sound (p .state) (p .holder) (p .rows)
 
 right-done : (n : ℕ) (p : Place) (v : Answer) → Done p v → SoundAt p → Right n p (p .rows) [] v
 unfolding countBy
@@ -226,8 +226,8 @@ unfolding countBy
 right-on n p l x out seen v more e rest g =
     record {
       grown = record {
-        rows = omega (arith, next .grown .rows, length-after l (p .inside) (p .rows));
-        packages = omega (arith, next .grown .packages, total-after l (p .inside) (p .rows) (g .inside));
+        rows = omega (arith, next .grown .rows, length-after l (p .holder) (p .rows));
+        packages = omega (arith, next .grown .packages, total-after l (p .holder) (p .rows) (g .holder));
       };
       rooted = next .rooted;
       counted = next .counted;
@@ -252,7 +252,7 @@ used-more n p ls {c} {u} {r} e =
 
 -- before the first line
 abbrev pub outset : Place
-outset = record { number = 1; used = 0; state = begun; inside = 0; rows = scriptRow ∷ [] }
+outset = record { number = 1; used = 0; state = begun; holder = 0; rows = scriptRow ∷ [] }
 
 module _ (n : ℕ) (s : List ℕ) where
   from-outset : Right n outset (rowsOf n s) (seenIn n s) (verdictFrom n 1 0 begun (lines s))

@@ -23,14 +23,14 @@ use denote.Enum.Laws as EL
 use denote.Array.{Array, array-lawful}
 use Rattle.reply.specs.declared.Answer.{Answer}
 use Rattle.reply.specs.declared.Row.{Row}
-use Rattle.reply.specs.declared.Table.{Table}
+use Rattle.reply.specs.declared.RowTable.{RowTable}
 use Rattle.laws.proofs.Lend.{into-field}
 use Rattle.reply.proofs.Row as T
 use Rattle.reply.proofs.Row.Laws as T′
 use Rattle.reply.proofs.Answer as An
 use Rattle.reply.proofs.Answer.Laws as An′
-use Rattle.reply.proofs.Table as Tb
-use Rattle.reply.proofs.Table.Laws as Tb′
+use Rattle.reply.proofs.RowTable as Tb
+use Rattle.reply.proofs.RowTable.Laws as Tb′
 
 abbrev pub R : RattleType
 R = T.the-row
@@ -48,7 +48,7 @@ pub arr-tells : (zs : List Row) (vs : List Val) → Is (Array R 1024) zs vs → 
 arr-tells zs vs is =
     Tb′.the-laws .0 .tells (map (T.the-type .to) zs) vs (into-field T.the-type 1024 zs vs is)
 
-abbrev pub tb : List Row → Answer → Table
+abbrev pub tb : List Row → Answer → RowTable
 tb zs v = record { rows = zs; answer = v }
 
 abbrev pub tb-mach : List Row → Answer → Val

@@ -15,7 +15,7 @@ use Rattle.reply.specs.declared.Answer.the-variants as Answer
 use Rattle.reply.specs.declared.LineReader.{LineReader}
 use Rattle.reply.specs.declared.NextLine.{NextLine}
 use Rattle.reply.specs.declared.Row.{Row}
-use Rattle.reply.specs.declared.Table.{Table}
+use Rattle.reply.specs.declared.RowTable.{RowTable}
 use Rattle.reply.specs.Lines.{Begins, Serves}
 use Rattle.reply.specs.Numbers.{ReadNumbers, rowIn}
 use Rattle.reply.specs.Reply.{meaning, outcomeOf}
@@ -64,7 +64,8 @@ pub only-read-reply : (s : List ℕ) (ys : List Row) (a b : Answer) (left right 
     → ReadRows s ys a left → ReadRows s ys b right → (a ≡ b) × (left ≡ right)
 only-read-reply s ys a b left right p q = (meaning-injective a b (p .says ∙ sym (q .says)), p .rows ∙ sym (q .rows))
 
-pub only-read-table : (s : List ℕ) (a b : Table) → tableMeaning a ≡ readTable s → tableMeaning b ≡ readTable s → a ≡ b
+pub only-read-table : (s : List ℕ) (a b : RowTable) → tableMeaning a ≡ readTable s
+    → tableMeaning b ≡ readTable s → a ≡ b
 unfolding tableMeaning
 only-read-table s a b p q =
     let e : tableMeaning a ≡ tableMeaning b = p ∙ sym q in
@@ -72,7 +73,7 @@ only-read-table s a b p q =
     let r : a .rows ≡ b .rows = ap (λ (t : Tabled). t .rows) e in
     λ i. record { rows = r i; answer = v i }
 
-pub only-row-of : (t : Table) (at : ℕ) (a b : Row) → a ≡ getD (t .rows) at scriptRow
+pub only-row-of : (t : RowTable) (at : ℕ) (a b : Row) → a ≡ getD (t .rows) at scriptRow
     → b ≡ getD (t .rows) at scriptRow → a ≡ b
 only-row-of t at a b p q = p ∙ sym q
 

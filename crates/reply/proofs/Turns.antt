@@ -70,7 +70,7 @@ begins-refused s n is read = ap noneLeft read ∙ ap (standing s) (sym read ∙ 
 
 module _ (st : Stand) (n : ℕ) where
   abbrev spot : ℕ
-  spot = placeBy (st .line) (st .inside) (st .rows)
+  spot = placeBy (st .line) (st .holder) (st .rows)
 
   pub place-fits : (p : ℕ) → p ≡ spot → p < n → p ≡ placeIn st n
   unfolding placeIn
@@ -91,7 +91,7 @@ module _ (st : Stand) (n : ℕ) where
 -- ---- the turn
 
 pub turn-is : (s : List ℕ) (st : Stand) (old : Row) {c : Change} {x : Seen}
-    → c ≡ changeBy (st .line) (st .inside) (st .rows) old → x ≡ seenAt s (st .end) (st .next)
+    → c ≡ changeBy (st .line) (st .holder) (st .rows) old → x ≡ seenAt s (st .end) (st .next)
     → turnTo st c x ≡ turned s st old
 unfolding turned
 turn-is s st old is seen = λ i. turnTo st (is i) (seen i)

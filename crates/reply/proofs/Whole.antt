@@ -131,7 +131,7 @@ module _ {X : Type 0} {m : Memory X} {n : ℕ} {show : List Row → X} (w : Show
   -- after a first line that goes on, the second finds the script's row
   abbrev second : Line → ℕ → Place
   second l x =
-      record { number = 2; used = x; state = step n l begun .state; inside = 0; rows = scriptRow ∷ [] }
+      record { number = 2; used = x; state = step n l begun .state; holder = 0; rows = scriptRow ∷ [] }
 
   module _ {l : Line} {x : ℕ} (d : Met s n outset l x) where
     first-is : Plain l 0 (scriptRow ∷ [])

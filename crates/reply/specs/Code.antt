@@ -6,7 +6,7 @@ use Prim.Native.Nat.{ℕ, zero, suc, _+_, _-_, _*_, _%_}
 use lib.Dec.{ltb}
 use lib.ListN.{take, drop, getD, set}
 use Rattle.text.specs.Put.{put}
-use Rattle.reply_line.specs.declared.Kind.the-variants as Kind
+use Rattle.reply_line.specs.declared.RowKind.the-variants as RowKind
 use Rattle.reply_line.specs.declared.Line.{Line}
 use Rattle.reply_line.specs.declared.Line.the-variants as Line
 use Rattle.reply_line.specs.Line.{letterOf}
@@ -39,13 +39,13 @@ seenAt s end at = seenOf s end (nextLine s at)
 -- ---- which row a line is about, and what becomes of it
 
 unfoldable pub placeBy : Line → ℕ → ℕ → ℕ
-placeBy (Line.Opens k v) inside rows = rows
-placeBy Line.Quiet inside rows = inside
-placeBy Line.Empty inside rows = inside
-placeBy Line.Package inside rows = inside
-placeBy (Line.Closes k) inside rows = inside
-placeBy (Line.Error v) inside rows = inside
-placeBy (Line.Refused r) inside rows = inside
+placeBy (Line.Opens k v) holder rows = rows
+placeBy Line.Quiet holder rows = holder
+placeBy Line.Empty holder rows = holder
+placeBy Line.Package holder rows = holder
+placeBy (Line.Closes k) holder rows = holder
+placeBy (Line.Error v) holder rows = holder
+placeBy (Line.Refused r) holder rows = holder
 
 unfoldable pub oneMore : ℕ → ℕ
 oneMore count = cond (ltb count 65536) (count + 1) count
@@ -55,17 +55,17 @@ unfolding oneMore
 raisedRow old = record { kind = old .kind; mark = old .mark; parent = old .parent; packages = oneMore (old .packages) }
 
 abbrev pub change : Row → ℕ → ℕ → Change
-change row inside rows = record { row = row; inside = inside; rows = rows }
+change row holder rows = record { row = row; holder = holder; rows = rows }
 
 unfoldable pub changeBy : Line → ℕ → ℕ → Row → Change
 unfolding oneMore raisedRow
-changeBy (Line.Opens k v) inside rows old = change (newRow k v inside) rows (oneMore rows)
-changeBy (Line.Closes k) inside rows old = change old (old .parent) rows
-changeBy Line.Package inside rows old = change (raisedRow old) inside rows
-changeBy Line.Quiet inside rows old = change old inside rows
-changeBy Line.Empty inside rows old = change old inside rows
-changeBy (Line.Error v) inside rows old = change old inside rows
-changeBy (Line.Refused r) inside rows old = change old inside rows
+changeBy (Line.Opens k v) holder rows old = change (newRow k v holder) rows (oneMore rows)
+changeBy (Line.Closes k) holder rows old = change old (old .parent) rows
+changeBy Line.Package holder rows old = change (raisedRow old) holder rows
+changeBy Line.Quiet holder rows old = change old holder rows
+changeBy Line.Empty holder rows old = change old holder rows
+changeBy (Line.Error v) holder rows old = change old holder rows
+changeBy (Line.Refused r) holder rows old = change old holder rows
 
 -- one of n rows, always
 abbrev pub clamp : ℕ → ℕ → ℕ
@@ -79,16 +79,16 @@ begunAt used next a =
     record {
       pos = 0;
       end = used;
-      line = Line.Opens Kind.Script 0;
+      line = Line.Opens RowKind.Script 0;
       next = next;
-      inside = 0;
+      holder = 0;
       rows = 0;
       answer = a;
     }
 
 -- a reply that is refused has nothing left to read
 abbrev pub noneLeft : Answer → Stand
-noneLeft a = record { pos = 0; end = 0; line = Line.Quiet; next = 0; inside = 0; rows = 0; answer = a }
+noneLeft a = record { pos = 0; end = 0; line = Line.Quiet; next = 0; holder = 0; rows = 0; answer = a }
 
 abbrev pub standing : List ℕ → Answer → Stand
 standing s (Answer.Read code used rows) = begunAt used (seenAt s used 0 .next) (Answer.Read code used rows)
@@ -100,7 +100,7 @@ startIn s n = standing s (verdict n s)
 
 unfoldable pub placeIn : Stand → ℕ → ℕ
 unfolding placeBy
-placeIn st n = clamp n (placeBy (st .line) (st .inside) (st .rows))
+placeIn st n = clamp n (placeBy (st .line) (st .holder) (st .rows))
 
 -- the row, and the stand, after a change, with the next line seen
 abbrev pub turnTo : Stand → Change → Seen → Turn
@@ -112,7 +112,7 @@ turnTo st c x =
         end = st .end;
         line = x .line;
         next = x .next;
-        inside = c .inside;
+        holder = c .holder;
         rows = c .rows;
         answer = st .answer;
       };
@@ -120,7 +120,7 @@ turnTo st c x =
 
 unfoldable pub turned : List ℕ → Stand → Row → Turn
 unfolding changeBy seenAt
-turned s st old = turnTo st (changeBy (st .line) (st .inside) (st .rows) old) (seenAt s (st .end) (st .next))
+turned s st old = turnTo st (changeBy (st .line) (st .holder) (st .rows) old) (seenAt s (st .end) (st .next))
 
 -- ---- the pass over a memory of rows: how a row is read from it, and how one is put
 

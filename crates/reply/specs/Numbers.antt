@@ -7,8 +7,8 @@ use Prim.Native.Nat.{ℕ, _+_, _*_, _/_}
 use lib.Dec.{eqb, ltb}
 use lib.ListN.{length, getD}
 use Rattle.text.specs.Put.{put}
-use Rattle.reply_line.specs.declared.Kind.{Kind}
-use Rattle.reply_line.specs.declared.Kind.the-variants as Kind
+use Rattle.reply_line.specs.declared.RowKind.{RowKind}
+use Rattle.reply_line.specs.declared.RowKind.the-variants as RowKind
 use Rattle.reply_line.specs.Line.{letterOf}
 use Rattle.reply.specs.declared.Answer.{Answer}
 use Rattle.reply.specs.declared.Answer.the-variants as Answer
@@ -46,11 +46,11 @@ pub record ReadNumbers (s lent : List ℕ) (r : Answer) (out : List ℕ) : Type 
 
 -- ---- a row read back from its numbers
 
-unfoldable pub kindOf : ℕ → Kind
+unfoldable pub kindOf : ℕ → RowKind
 unfolding letterOf
 kindOf letter =
-    cond (eqb letter (letterOf Kind.Measuring)) Kind.Measuring
-    (cond (eqb letter (letterOf Kind.Plain)) Kind.Plain Kind.Script)
+    cond (eqb letter (letterOf RowKind.Sweep)) RowKind.Sweep
+    (cond (eqb letter (letterOf RowKind.Loop)) RowKind.Loop RowKind.Script)
 
 unfoldable pub rowAt : List ℕ → ℕ → Row
 unfolding kindOf

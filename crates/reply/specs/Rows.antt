@@ -5,8 +5,8 @@ use mathlib.Core.List.{List, [], _∷_, _++_}
 use Prim.Native.Nat.{ℕ, _+_}
 use lib.ListN.{length, getD, set, drop, replicate}
 use Rattle.text.specs.Cut.{lines}
-use Rattle.reply_line.specs.declared.Kind.{Kind}
-use Rattle.reply_line.specs.declared.Kind.the-variants as Kind
+use Rattle.reply_line.specs.declared.RowKind.{RowKind}
+use Rattle.reply_line.specs.declared.RowKind.the-variants as RowKind
 use Rattle.reply_line.specs.declared.Line.{Line}
 use Rattle.reply_line.specs.declared.Line.the-variants as Line
 use Rattle.reply_line.specs.Line.{lineAt}
@@ -16,14 +16,14 @@ use Rattle.reply_step.specs.Step.{Open, begun, step}
 use Rattle.reply.specs.declared.Row.{Row}
 use Rattle.reply.specs.declared.Answer.{Answer}
 use Rattle.reply.specs.declared.Answer.the-variants as Answer
-use Rattle.reply.specs.declared.Table.{Table}
+use Rattle.reply.specs.declared.RowTable.{RowTable}
 use Rattle.reply.specs.Reply.{verdict, Outcome, meaning, outcomeOf}
 
 -- the script's row, its own parent, "S and L have code 0000"
 abbrev pub scriptRow : Row
-scriptRow = record { kind = Kind.Script; mark = 0; parent = 0; packages = 0 }
+scriptRow = record { kind = RowKind.Script; mark = 0; parent = 0; packages = 0 }
 
-abbrev pub newRow : Kind → ℕ → ℕ → Row
+abbrev pub newRow : RowKind → ℕ → ℕ → Row
 newRow k v up = record { kind = k; mark = v; parent = up; packages = 0 }
 
 abbrev pub raised : Row → Row
@@ -94,7 +94,7 @@ pub record Tabled : Type 0 where
   pub outcome : Outcome
   pub rows : List Row
 
-unfoldable pub tableMeaning : Table → Tabled
+unfoldable pub tableMeaning : RowTable → Tabled
 unfolding meaning
 tableMeaning t = record { outcome = meaning (t .answer); rows = t .rows }
 

@@ -6,9 +6,9 @@ ghost use Rattle.reply.specs.Rows.{scriptRow, ReadRows, tableMeaning, re
 ghost use Rattle.reply.specs.Lines.{nextLine, placeAfter, Begins, Serves};
 ghost use Rattle.reply.specs.Code.{seenAt, placeBy, oneMore, raisedRow, change, changeBy};
 ghost use Rattle.reply.specs.Code.{startIn, placeIn, turned};
-use reply_line::Kind;
 use reply_line::Line;
 use reply_line::Refusal;
+use reply_line::RowKind;
 use reply_step::Move;
 
 pub mod numbers;
@@ -21,7 +21,7 @@ const TABLE_ROWS: usize = 1024;
 
 // Row 0 is the script, the others are loops.
 pub struct Row {
-    pub kind: Kind,
+    pub kind: RowKind,
     pub mark: u32,
     pub parent: usize,
     pub packages: usize,
@@ -29,7 +29,7 @@ pub struct Row {
 
 // The script's row before the first package. It stands wherever there is no row.
 const SCRIPT_ROW: Row = Row {
-    kind: Kind::Script,
+    kind: RowKind::Script,
     mark: 0,
     parent: 0,
     packages: 0,
@@ -129,7 +129,7 @@ pub struct Stand {
     pub end: usize,
     pub line: Line,
     pub next: usize,
-    pub inside: usize,
+    pub holder: usize,
     pub rows: usize,
     pub answer: Answer,
 }
@@ -137,7 +137,7 @@ pub struct Stand {
 // What a line makes of the row that it is about, and of the place among the rows.
 pub struct Change {
     pub row: Row,
-    pub inside: usize,
+    pub holder: usize,
     pub rows: usize,
 }
 
@@ -165,17 +165,17 @@ fn seen_at(reply: &[u8], pos: usize, end: usize) -> Seen
 }
 
 // Which row a line is about: an opening mark the next free one, any other the innermost.
-fn place_by(line: Line, inside: usize, rows: usize) -> usize
-    ensures { λ r. ⌜ r ≡ placeBy line inside rows ⌝ }
+fn place_by(line: Line, holder: usize, rows: usize) -> usize
+    ensures { λ r. ⌜ r ≡ placeBy line holder rows ⌝ }
 {
     match line {
         Line::Opens(_, _) => rows,
-        Line::Quiet => inside,
-        Line::Empty => inside,
-        Line::Package => inside,
-        Line::Closes(_) => inside,
-        Line::Error(_) => inside,
-        Line::Refused(_) => inside,
+        Line::Quiet => holder,
+        Line::Empty => holder,
+        Line::Package => holder,
+        Line::Closes(_) => holder,
+        Line::Error(_) => holder,
+        Line::Refused(_) => holder,
     }
 }
 
@@ -199,18 +199,18 @@ fn raised_row(old: Row) -> Row
     }
 }
 
-fn changed(row: Row, inside: usize, rows: usize) -> Change
-    ensures { λ r. ⌜ r ≡ change row inside rows ⌝ }
+fn changed(row: Row, holder: usize, rows: usize) -> Change
+    ensures { λ r. ⌜ r ≡ change row holder rows ⌝ }
 {
     Change {
         row: row,
-        inside: inside,
+        holder: holder,
         rows: rows,
     }
 }
 
-fn change_by(line: Line, inside: usize, rows: usize, old: Row) -> Change
-    ensures { λ r. ⌜ r ≡ changeBy line inside rows old ⌝ }
+fn change_by(line: Line, holder: usize, rows: usize, old: Row) -> Change
+    ensures { λ r. ⌜ r ≡ changeBy line holder rows old ⌝ }
 {
     match line {
         Line::Opens(k, v) => {
@@ -218,7 +218,7 @@ fn change_by(line: Line, inside: usize, rows: usize, old: Row) -> Change
             let row = Row {
                 kind: k,
                 mark: v,
-                parent: inside,
+                parent: holder,
                 packages: 0,
             };
             changed(row, rows, more)
@@ -226,12 +226,12 @@ fn change_by(line: Line, inside: usize, rows: usize, old: Row) -> Change
         Line::Closes(_) => changed(old, old.parent, rows),
         Line::Package => {
             let row = raised_row(old);
-            changed(row, inside, rows)
+            changed(row, holder, rows)
         }
-        Line::Quiet => changed(old, inside, rows),
-        Line::Empty => changed(old, inside, rows),
-        Line::Error(_) => changed(old, inside, rows),
-        Line::Refused(_) => changed(old, inside, rows),
+        Line::Quiet => changed(old, holder, rows),
+        Line::Empty => changed(old, holder, rows),
+        Line::Error(_) => changed(old, holder, rows),
+        Line::Refused(_) => changed(old, holder, rows),
     }
 }
 
@@ -251,9 +251,9 @@ fn begin(reply: &[u8], n: usize) -> Stand
             Stand {
                 pos: 0,
                 end: used,
-                line: Line::Opens(Kind::Script, 0),
+                line: Line::Opens(RowKind::Script, 0),
                 next: seen.next,
-                inside: 0,
+                holder: 0,
                 rows: 0,
                 answer: answer,
             }
@@ -263,7 +263,7 @@ fn begin(reply: &[u8], n: usize) -> Stand
             end: 0,
             line: Line::Quiet,
             next: 0,
-            inside: 0,
+            holder: 0,
             rows: 0,
             answer: answer,
         },
@@ -275,7 +275,7 @@ fn place_in(st: Stand, n: usize) -> usize
     ensures { λ r. ⌜ r ≡ placeIn st n ⌝ }
 {
     let line = st.line;
-    let p = place_by(line, st.inside, st.rows);
+    let p = place_by(line, st.holder, st.rows);
     if p < n { p } else { 0 }
 }
 
@@ -285,7 +285,7 @@ fn take_turn(reply: &[u8], st: Stand, old: Row) -> Turn
 {
     let line = st.line;
     let answer = st.answer;
-    let change = change_by(line, st.inside, st.rows, old);
+    let change = change_by(line, st.holder, st.rows, old);
     let row = change.row;
     let seen = seen_at(reply, st.next, st.end);
     let ahead = seen.line;
@@ -296,7 +296,7 @@ fn take_turn(reply: &[u8], st: Stand, old: Row) -> Turn
             end: st.end,
             line: ahead,
             next: seen.next,
-            inside: change.inside,
+            holder: change.holder,
             rows: change.rows,
             answer: answer,
         },
@@ -322,25 +322,25 @@ pub fn read_reply(reply: &[u8], rows: &mut [Row]) -> Answer
 }
 
 // What a table of 1,024 rows holds after a reply is read into it.
-pub struct Table {
+pub struct RowTable {
     pub rows: [Row; TABLE_ROWS],
     pub answer: Answer,
 }
 
 // The same by value, for those who lend no table of their own.
-pub fn read_table(reply: &[u8]) -> Table
+pub fn read_table(reply: &[u8]) -> RowTable
     ensures { λ r. ⌜ tableMeaning r ≡ readTable (now (reply .entry)) ⌝ }
 {
     let mut rows = [SCRIPT_ROW; TABLE_ROWS];
     let answer = read_reply(reply, &mut rows);
-    Table {
+    RowTable {
         rows: rows,
         answer: answer,
     }
 }
 
 // A row of the table, or the script's where there is no such place.
-pub fn row_of(table: Table, at: usize) -> Row
+pub fn row_of(table: RowTable, at: usize) -> Row
     ensures { λ r. ⌜ r ≡ getD (table .rows) at scriptRow ⌝ }
 {
     if at < TABLE_ROWS {

@@ -6,7 +6,7 @@ ghost use Rattle.reply.specs.Numbers.{ReadNumbers, kindOf, rowAt, rowIn}
 ghost use Rattle.reply.specs.Code.{low, putRow};
 use super::Answer;
 use super::Row;
-use reply_line::Kind;
+use reply_line::RowKind;
 
 // The letter of its kind, its mark, its parent row, its packages.
 const NUMBERS_A_ROW: usize = 4;
@@ -14,16 +14,16 @@ const NUMBERS_A_ROW: usize = 4;
 const OVER_32_BITS: usize = 4294967296;
 
 // The kind that has a letter; any other letter is the script's.
-fn kind_of(letter: u32) -> Kind
+fn kind_of(letter: u32) -> RowKind
     ensures { λ r. ⌜ r ≡ kindOf letter ⌝ }
 {
-    if letter == reply_line::letter(Kind::Measuring) as u32 {
-        return Kind::Measuring;
+    if letter == reply_line::letter(RowKind::Sweep) as u32 {
+        return RowKind::Sweep;
     }
-    if letter == reply_line::letter(Kind::Plain) as u32 {
-        return Kind::Plain;
+    if letter == reply_line::letter(RowKind::Loop) as u32 {
+        return RowKind::Loop;
     }
-    Kind::Script
+    RowKind::Script
 }
 
 fn wide(number: u32) -> usize

@@ -9,7 +9,7 @@ use mathlib.Core.Path.{_≡_, refl, sym}
 use Prim.Native.Nat.{ℕ, _≤_}
 use Rattle.package.specs.Package.{Verdict, packageOf, verdictOf}
 use Rattle.reply_line.specs.Code.{laterBy, packageBy}
-use Rattle.reply_line.specs.declared.Kind.the-variants as Kind
+use Rattle.reply_line.specs.declared.RowKind.the-variants as RowKind
 use Rattle.reply_line.specs.declared.Line.the-variants as Line
 use Rattle.reply_line.specs.declared.Line.{Line}
 use Rattle.reply_line.specs.declared.Refusal.the-variants as Refusal
@@ -87,8 +87,8 @@ same-row c pk s either fine =
     choice : Line → Bool → Bool → Bool → Bool → Bool → Line → Line
     choice p m z l x k o =
         cond m (markLine s)
-        (cond z (aloneIn s (Line.Closes Kind.Measuring))
-        (cond l (aloneIn s (Line.Opens Kind.Plain 0)) (cond x (aloneIn s (Line.Closes Kind.Plain)) (cond k p o))))
+        (cond z (aloneIn s (Line.Closes RowKind.Sweep))
+        (cond l (aloneIn s (Line.Opens RowKind.Loop 0)) (cond x (aloneIn s (Line.Closes RowKind.Loop)) (cond k p o))))
 
     go : (m z l x k : Bool) (o : Line) → (Refused (choice pk m z l x k o) → ⊥)
         → choice Line.Package m z l x k o ≡ choice pk m z l x k o

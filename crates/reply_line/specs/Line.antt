@@ -5,8 +5,8 @@ use mathlib.Core.Bool.{Bool, _&&_, _||_, cond}
 use mathlib.Core.List.{List, [], _∷_}
 use Prim.Native.Nat.{ℕ}
 use Rattle.package.specs.Package.{Verdict, verdictOf, packageOf}
-use Rattle.reply_line.specs.declared.Kind.the-variants as Kind
-use Rattle.reply_line.specs.declared.Kind.{Kind}
+use Rattle.reply_line.specs.declared.RowKind.the-variants as RowKind
+use Rattle.reply_line.specs.declared.RowKind.{RowKind}
 use Rattle.reply_line.specs.declared.Line.the-variants as Line
 use Rattle.reply_line.specs.declared.Line.{Line}
 use Rattle.reply_line.specs.declared.Refusal.the-variants as Refusal
@@ -29,10 +29,10 @@ numberOf Refusal.ShortTable = 54
 numberOf Refusal.TooLong = 55
 
 -- the kinds of rows: S, M, L
-unfoldable pub letterOf : Kind → ℕ
-letterOf Kind.Script = byte "S"
-letterOf Kind.Measuring = byte "M"
-letterOf Kind.Plain = byte "L"
+unfoldable pub letterOf : RowKind → ℕ
+letterOf RowKind.Script = byte "S"
+letterOf RowKind.Sweep = byte "M"
+letterOf RowKind.Loop = byte "L"
 
 abbrev pub unknown : Line
 unknown = Line.Refused Refusal.UnknownLine
@@ -77,7 +77,7 @@ aloneIn s l = cond (eqb (length s) 1) l unknown
 
 -- "`M` and four hex opens a measuring loop"
 unfoldable pub markOf : Hex → Line
-markOf (Hex.Number v) = Line.Opens Kind.Measuring v
+markOf (Hex.Number v) = Line.Opens RowKind.Sweep v
 markOf Hex.Bad = unknown
 
 unfoldable pub markLine : List ℕ → Line
@@ -98,9 +98,9 @@ laterError Hex.Bad = unknown
 abbrev pub laterRows : Line → List ℕ → List (ℕ × Line)
 laterRows pk s =
     (byte "M", markLine s)
-    ∷ (byte "*", aloneIn s (Line.Closes Kind.Measuring))
-    ∷ (byte "L", aloneIn s (Line.Opens Kind.Plain 0))
-    ∷ (byte "+", aloneIn s (Line.Closes Kind.Plain))
+    ∷ (byte "*", aloneIn s (Line.Closes RowKind.Sweep))
+    ∷ (byte "L", aloneIn s (Line.Opens RowKind.Loop 0))
+    ∷ (byte "+", aloneIn s (Line.Closes RowKind.Loop))
     ∷ (byte "P", pk)
     ∷ (byte "T", Line.Quiet)
     ∷ (byte "h", aloneIn s Line.Quiet)

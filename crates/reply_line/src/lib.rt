@@ -8,10 +8,10 @@ ghost use Rattle.package.specs.Package.{verdictOf, packageOf};
 use text::Hex;
 
 // The kinds of rows: the script, and the kinds of loops.
-pub enum Kind {
+pub enum RowKind {
     Script,
-    Measuring,
-    Plain,
+    Sweep,
+    Loop,
 }
 
 pub enum Refusal {
@@ -30,17 +30,17 @@ pub enum Line {
     Quiet,
     Empty,
     Package,
-    Opens(Kind, u32),
-    Closes(Kind),
+    Opens(RowKind, u32),
+    Closes(RowKind),
     Error(u32),
     Refused(Refusal),
 }
 
 // 01's number of a refusal.
-pub fn number(why: Refusal) -> u16
-    ensures { λ r. ⌜ r ≡ numberOf why ⌝ }
+pub fn number(refusal: Refusal) -> u8
+    ensures { λ r. ⌜ r ≡ numberOf refusal ⌝ }
 {
-    match why {
+    match refusal {
         Refusal::BadPart => 40,
         Refusal::TooManyParts => 41,
         Refusal::NoEnding => 50,
@@ -53,13 +53,13 @@ pub fn number(why: Refusal) -> u16
 }
 
 // The letter of a row: S for the script, M for a measuring loop, L for a loop.
-pub fn letter(kind: Kind) -> u8
+pub fn letter(kind: RowKind) -> u8
     ensures { λ r. ⌜ r ≡ letterOf kind ⌝ }
 {
     match kind {
-        Kind::Script => b'S',
-        Kind::Measuring => b'M',
-        Kind::Plain => b'L',
+        RowKind::Script => b'S',
+        RowKind::Sweep => b'M',
+        RowKind::Loop => b'L',
     }
 }
 
@@ -142,7 +142,7 @@ fn mark_line(s: &[u8]) -> Line
 {
     if s.len() == 5 {
         match text::hex_at(s, 1, 4) {
-            Hex::Number(v) => Line::Opens(Kind::Measuring, v),
+            Hex::Number(v) => Line::Opens(RowKind::Sweep, v),
             Hex::Bad => Line::Refused(Refusal::UnknownLine),
         }
     } else {
@@ -179,9 +179,9 @@ fn later_line(s: &[u8], known: bool) -> Line
         let c = s[0];
         match c {
             b'M' => mark_line(s),
-            b'*' => alone(s, Line::Closes(Kind::Measuring)),
-            b'L' => alone(s, Line::Opens(Kind::Plain, 0)),
-            b'+' => alone(s, Line::Closes(Kind::Plain)),
+            b'*' => alone(s, Line::Closes(RowKind::Sweep)),
+            b'L' => alone(s, Line::Opens(RowKind::Loop, 0)),
+            b'+' => alone(s, Line::Closes(RowKind::Loop)),
             b'P' => {
                 if known {
                     Line::Package

@@ -9,51 +9,51 @@ use lib.Dec.{leb, ltb, eqb}
 use lib.ListN.{length, getD, length-map}
 use Rattle.laws.specs.Stack.{stack}
 use Rattle.laws.proofs.Stack.{stack-length, pushed, topmost}
-use Rattle.reply_line.specs.declared.Kind.{Kind}
+use Rattle.reply_line.specs.declared.RowKind.{RowKind}
 use Rattle.reply_line.specs.declared.Line.{Line}
 use Rattle.reply_line.specs.declared.Line.the-variants as Line
 use Rattle.reply_line.specs.declared.Refusal.the-variants as Refusal
 use Rattle.reply_line.specs.Line.{letterOf}
 use Rattle.reply_step.specs.declared.Loop.{Loop}
 use Rattle.reply_step.specs.declared.Move.the-variants as Move
-use Rattle.reply_step.specs.declared.State.{State}
 use Rattle.reply_step.specs.declared.Step.{Step}
 use Rattle.reply_step.specs.Code as Code
 use Rattle.reply_step.specs.Code.{stepIn, pushIn, popIn}
 use Rattle.reply_step.specs.Meaning.{noLoop, kindIn, kinds, meant, stepped, laid, arrayAfter, Steps}
 use Rattle.reply_step.specs.Step.{closes, outer, goes, refused, opened, closed, step}
+use Rattle.reply_step.specs.declared.Open as coded
 
 -- ---- the open loops
 
-module _ (st : State) where
+module _ (st : coded.Open) where
   pub how-many : length (kinds st) ≡ st .depth
   how-many = length-map (stack noLoop (st .loops) (st .depth)) kindIn ∙ stack-length noLoop (st .loops) (st .depth)
 
   -- the innermost, as the code finds it
-  pub closes-top : (k : Kind) → (st .depth ≡ 0 → ⊥)
+  pub closes-top : (k : RowKind) → (st .depth ≡ 0 → ⊥)
       → eqb (letterOf (getD (st .loops) (st .depth - 1) noLoop .kind)) (letterOf k) ≡ closes k (kinds st)
   unfolding closes
   closes-top k some = rw (topmost noLoop (st .loops) (st .depth) some) refl
 
-  pub closes-none : (k : Kind) → st .depth ≡ 0 → false ≡ closes k (kinds st)
+  pub closes-none : (k : RowKind) → st .depth ≡ 0 → false ≡ closes k (kinds st)
   unfolding closes
   closes-none k none = rw none refl
 
-  pub closes-some : (k : Kind) → closes k (kinds st) ≡ true → 1 ≤ st .depth
+  pub closes-some : (k : RowKind) → closes k (kinds st) ≡ true → 1 ≤ st .depth
   closes-some k e = by-depth (st .depth) refl
     where
       by-depth : (d : ℕ) → st .depth ≡ d → 1 ≤ st .depth
       by-depth zero p = absurd (false≢true (closes-none k p ∙ e))
       by-depth (suc d) p = omega arith
 
-  is-opened : (k : Kind) → length (st .loops) ≡ 8 → ltb (st .depth) 8 ≡ true
+  is-opened : (k : RowKind) → length (st .loops) ≡ 8 → ltb (st .depth) 8 ≡ true
       → meant (pushIn k st) ≡ opened k (meant st)
   is-opened k eight e =
       ap (λ (l : List Loop). record { loops = map kindIn l; rows = pushIn k st .rows })
       (pushed noLoop (st .loops) (st .depth) (record { kind = k }) (omega (arith, ltb-true (st .depth) 8 e, eight)))
 
   is-closed : meant (popIn st) ≡ closed (meant st)
-  is-closed = ap (λ (l : List Kind). record { loops = l; rows = st .rows }) (by-depth (st .depth))
+  is-closed = ap (λ (l : List RowKind). record { loops = l; rows = st .rows }) (by-depth (st .depth))
     where
       by-depth : (d : ℕ) → map kindIn (stack noLoop (st .loops) (d - 1))
           ≡ outer (map kindIn (stack noLoop (st .loops) d))
@@ -65,7 +65,7 @@ module _ (st : State) where
 -- ---- the step
 
 -- what each line's step means
-module _ (n : ℕ) (st : State) where
+module _ (n : ℕ) (st : coded.Open) where
   at-end : stepped (Code.endIn st) ≡ step n Line.Empty (meant st)
   unfolding step
   at-end = rw (how-many st) (by-test (leb 1 (st .depth)))
@@ -76,7 +76,7 @@ module _ (n : ℕ) (st : State) where
       by-test true = refl
       by-test false = refl
 
-  at-opening : (k : Kind) (v : ℕ) → length (st .loops) ≡ 8
+  at-opening : (k : RowKind) (v : ℕ) → length (st .loops) ≡ 8
       → stepped (Code.openIn n k st) ≡ step n (Line.Opens k v) (meant st)
   unfolding step
   at-opening k v eight = rw (how-many st) (by-test (ltb (st .depth) 8) refl (ltb (st .rows) n))
@@ -92,7 +92,7 @@ module _ (n : ℕ) (st : State) where
       by-test true e false = refl
       by-test false e b′ = refl
 
-  at-closing : (k : Kind) → stepped (Code.closeIn k st) ≡ step n (Line.Closes k) (meant st)
+  at-closing : (k : RowKind) → stepped (Code.closeIn k st) ≡ step n (Line.Closes k) (meant st)
   unfolding step
   at-closing k = by-test (closes k (kinds st))
     where
@@ -145,7 +145,7 @@ module _ (n : ℕ) (st : State) where
   step-array (Line.Refused r) = refl
 
 -- the code's step on a line that was found to be l
-pub does : {n : ℕ} {line l : Line} {st : State} {r : Step} → length (st .loops) ≡ 8 → line ≡ l → r ≡ stepIn n l st
+pub does : {n : ℕ} {line l : Line} {st : coded.Open} {r : Step} → length (st .loops) ≡ 8 → line ≡ l → r ≡ stepIn n l st
     → Steps n line st r
 does {n} {line} {l} {st} {r} eight is e =
     let same : r ≡ stepIn n line st = e ∙ ap (λ (m : Line). stepIn n m st) (sym is) in

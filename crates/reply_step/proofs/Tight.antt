@@ -3,18 +3,18 @@ use mathlib.Core.Path.{_≡_, sym, _∙_, ap}
 use Prim.Native.Nat.{ℕ}
 use Rattle.reply_line.specs.declared.Line.{Line}
 use Rattle.reply_step.specs.declared.Move.{Move}
-use Rattle.reply_step.specs.declared.State.{State}
 use Rattle.reply_step.specs.declared.Step.{Step}
 use Rattle.reply_step.specs.Meaning.{bare, stepped, arrayAfter, Steps}
 use Rattle.reply_step.specs.Step.{Next}
+use Rattle.reply_step.specs.declared.Open as coded
 use Rattle.reply_step.proofs.Loops.{how-many}
 use lib.ListN.{length}
 
-pub only-nothing-open : (a b : State) → a ≡ bare → b ≡ bare → a ≡ b
+pub only-nothing-open : (a b : coded.Open) → a ≡ bare → b ≡ bare → a ≡ b
 only-nothing-open a b p q = p ∙ sym q
 
 -- where it leads, the count of rows, the depth, and the whole array
-pub only-step-of : (n : ℕ) (l : Line) (st : State) (a b : Step) → Steps n l st a → Steps n l st b → a ≡ b
+pub only-step-of : (n : ℕ) (l : Line) (st : coded.Open) (a b : Step) → Steps n l st a → Steps n l st b → a ≡ b
 only-step-of n l st a b p q =
     λ i. record { to = to i; state = record { loops = loops i; depth = depth i; rows = rows i } }
   where

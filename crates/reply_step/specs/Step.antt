@@ -4,7 +4,7 @@ use mathlib.Core.List.{List, [], _∷_}
 use Prim.Native.Nat.{ℕ, _+_}
 use lib.Dec.{leb, ltb, eqb}
 use lib.ListN.{length}
-use Rattle.reply_line.specs.declared.Kind.{Kind}
+use Rattle.reply_line.specs.declared.RowKind.{RowKind}
 use Rattle.reply_line.specs.declared.Refusal.{Refusal}
 use Rattle.reply_line.specs.declared.Refusal.the-variants as Refusal
 use Rattle.reply_line.specs.declared.Line.{Line}
@@ -15,7 +15,7 @@ use Rattle.reply_step.specs.declared.Move.the-variants as Move
 
 -- the open loops, innermost first, and how many rows there are
 pub record Open : Type 0 where
-  pub loops : List Kind
+  pub loops : List RowKind
   pub rows : ℕ
 
 -- before the first line: the script's row alone
@@ -34,16 +34,16 @@ abbrev pub refused : Refusal → Open → Next
 refused r st = goes (Move.Refused r) st
 
 -- "closing mark without its mate": the innermost open loop must be of the mark's kind
-unfoldable pub closes : Kind → List Kind → Bool
+unfoldable pub closes : RowKind → List RowKind → Bool
 unfolding letterOf
 closes k [] = false
 closes k (l ∷ ls) = eqb (letterOf l) (letterOf k)
 
-abbrev pub outer : List Kind → List Kind
+abbrev pub outer : List RowKind → List RowKind
 outer [] = []
 outer (l ∷ ls) = ls
 
-abbrev pub opened : Kind → Open → Open
+abbrev pub opened : RowKind → Open → Open
 opened k st = record { loops = k ∷ st .loops; rows = st .rows + 1 }
 
 abbrev pub closed : Open → Open

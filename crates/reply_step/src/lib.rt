@@ -4,20 +4,20 @@ ghost use lib.ListN.{getD};
 ghost use Rattle.reply_step.specs.Step.{closes};
 ghost use Rattle.reply_step.specs.Meaning.{noLoop, kinds, bare, Steps};
 ghost use Rattle.reply_step.specs.Code.{to, endIn, openIn, closeIn};
-use reply_line::Kind;
 use reply_line::Line;
 use reply_line::Refusal;
+use reply_line::RowKind;
 
 // The most open loops.
 const MOST_LOOPS: usize = 8;
 
 // An open loop, by its kind.
 pub struct Loop {
-    pub kind: Kind,
+    pub kind: RowKind,
 }
 
 // The open loops, innermost last, and how many rows there are.
-pub struct State {
+pub struct Open {
     pub loops: [Loop; 8],
     pub depth: usize,
     pub rows: usize,
@@ -32,34 +32,36 @@ pub enum Move {
 
 pub struct Step {
     pub to: Move,
-    pub state: State,
+    pub state: Open,
 }
 
 // Before the first line: nothing is open, and there is the script's row.
-pub fn nothing_open() -> State
+pub fn nothing_open() -> Open
     ensures { λ r. ⌜ r ≡ bare ⌝ }
 {
-    State {
-        loops: [Loop { kind: Kind::Script }; 8],
+    Open {
+        loops: [Loop {
+            kind: RowKind::Script,
+        }; 8],
         depth: 0,
         rows: 1,
     }
 }
 
 // The kind of the loop at a place; past the array, the script's.
-fn kind_at(st: State, at: usize) -> Kind
+fn kind_at(st: Open, at: usize) -> RowKind
     ensures { λ r. ⌜ r ≡ getD (st .loops) at noLoop .kind ⌝ }
 {
     if at < MOST_LOOPS {
         let found = st.loops[at];
         found.kind
     } else {
-        Kind::Script
+        RowKind::Script
     }
 }
 
 // Whether a mark closes the innermost open loop.
-fn closes_it(k: Kind, st: State) -> bool
+fn closes_it(k: RowKind, st: Open) -> bool
     ensures { λ r. ⌜ r ≡ closes k (kinds st) ⌝ }
 {
     if st.depth == 0 {
@@ -70,7 +72,7 @@ fn closes_it(k: Kind, st: State) -> bool
 }
 
 // A step: where the line leads, and what is open then.
-fn step_to(lead: Move, st: State) -> Step
+fn step_to(lead: Move, st: Open) -> Step
     ensures { λ r. ⌜ r ≡ to lead st ⌝ }
 {
     Step {
@@ -80,7 +82,7 @@ fn step_to(lead: Move, st: State) -> Step
 }
 
 // An empty line ends the reply where nothing is open.
-fn end_reply(st: State) -> Step
+fn end_reply(st: Open) -> Step
     ensures { λ r. ⌜ r ≡ endIn st ⌝ }
 {
     if 1 <= st.depth {
@@ -91,7 +93,7 @@ fn end_reply(st: State) -> Step
 }
 
 // An opening mark, with n rows to write.
-fn open_loop(k: Kind, st: State, n: usize) -> Step
+fn open_loop(k: RowKind, st: Open, n: usize) -> Step
     ensures { λ r. ⌜ r ≡ openIn n k st ⌝ }
 {
     if MOST_LOOPS <= st.depth {
@@ -104,7 +106,7 @@ fn open_loop(k: Kind, st: State, n: usize) -> Step
     let r = st.rows;
     let mut loops = st.loops;
     loops[d] = Loop { kind: k };
-    let inner = State {
+    let inner = Open {
         loops: loops,
         depth: d + 1,
         rows: r + 1,
@@ -113,12 +115,12 @@ fn open_loop(k: Kind, st: State, n: usize) -> Step
 }
 
 // A closing mark.
-fn close_loop(k: Kind, st: State) -> Step
+fn close_loop(k: RowKind, st: Open) -> Step
     ensures { λ r. ⌜ r ≡ closeIn k st ⌝ }
 {
     if closes_it(k, st) {
         let loops = st.loops;
-        let outer = State {
+        let outer = Open {
             loops: loops,
             depth: st.depth - 1,
             rows: st.rows,
@@ -130,7 +132,7 @@ fn close_loop(k: Kind, st: State) -> Step
 }
 
 // What a line does, with n rows to write.
-pub fn step_of(line: Line, st: State, n: usize) -> Step
+pub fn step_of(line: Line, st: Open, n: usize) -> Step
     ensures { λ r. ⌜ Steps n line st r ⌝ }
 {
     match line {

@@ -7,7 +7,7 @@ use libc::STDIN_FILENO;
 use libc::STDOUT_FILENO;
 use reply::Answer;
 use reply::Row;
-use reply::Table;
+use reply::RowTable;
 use stream::Input;
 
 // One byte more than the longest reply, so that a longer one is known.
@@ -46,7 +46,7 @@ fn put_row(at: usize, row: Row) -> bool {
         && put_number(b"packages=", row.packages)
 }
 
-fn put_rows(table: Table, rows: usize) -> bool {
+fn put_rows(table: RowTable, rows: usize) -> bool {
     let mut at: usize = 0;
     while at < rows {
         let row = reply::row_of(table, at);
@@ -58,7 +58,7 @@ fn put_rows(table: Table, rows: usize) -> bool {
     true
 }
 
-fn put_table(table: Table) -> bool {
+fn put_table(table: RowTable) -> bool {
     let answer = table.answer;
     match answer {
         Answer::Read { code, used, rows } => {

@@ -10,18 +10,20 @@ use Rattle.table.specs.declared.Item.the-variants as Item
 use Rattle.table.specs.declared.Close.the-variants as Close
 use Rattle.table.specs.declared.Pack.the-variants as Pack
 use Rattle.table.specs.Item.{isLoop, isSweep}
-use Rattle.table.specs.Uses.{Names, gives}
+use Rattle.table.specs.ReadWrite.{Names, writesOf}
 use Rattle.sets.specs.Names.{either, put, namesOf}
-use Rattle.rules.specs.Check.{Box, State, begin, after, anyBox}
-use Rattle.rules.specs.Code.{Form, Around, Held, Holds, holdsOf, boxOf, boxesIn, stateOf, stateAfter, Boxed}
-use Rattle.rules.specs.Code.{plainForm, isOpen, isClose, sortIn, markIn, moved, Deeper, entered, Outside, Starts}
+use Rattle.rules.specs.Check.{Box, Held, begin, after, anyBox}
+use Rattle.rules.specs.Code.{Form, Around, Holds, holdsOf, boxOf, boxesIn, stateOf, stateAfter, Boxed}
+use Rattle.rules.specs.Code.{plainForm, isOpen, isClose, sortIn, markIn, moved, Deeper, entered, Outside}
+use Rattle.rules.specs.Code.{Starts}
 use Rattle.rules.specs.declared.briefs.Form.the-variants as Form
+use Rattle.rules.specs.declared.written.Held as coded
 use Rattle.rules.proofs.Forms.{no, formed, head-sort}
 
 module _ (a : Around) (h : Holds) (bs : List Box) where
   -- an item that opens no box
   pub moved-is : (d : ℕ) → a .depth ≡ d → (x : Item) (writes : Names) → isOpen (plainForm x) ≡ false
-      → markIn a h (plainForm x) ≡ false → either (h .sure) writes ≡ put (h .sure) (gives x)
+      → markIn a h (plainForm x) ≡ false → either (h .sure) writes ≡ put (h .sure) (writesOf x)
       → stateAfter (isClose (plainForm x)) a (moved a h writes (plainForm x)) bs ≡ after (stateOf a h bs) x
   unfolding markIn moved
   moved-is d e (Item.Act y) w o m p = rw p
@@ -53,13 +55,13 @@ close-inside a h Form.Break c m e = no (sym c)
 close-inside a h Form.Tag c m e = no (sym c)
 
 -- an item that opens a box
-module _ (a : Around) (h : Held) (bs : List Box) where
+module _ (a : Around) (h : coded.Held) (bs : List Box) where
   abbrev within : List Box
   within = boxesIn (a .depth) (boxOf a (holdsOf h)) bs
 
   pub deeper-is : (x : Item) (r : Around) (q : Holds) (writes : Names) → Deeper a h (plainForm x) r
       → isOpen (plainForm x) ≡ true → q ≡ entered (holdsOf h) writes
-      → either (namesOf (h .sure)) writes ≡ put (namesOf (h .sure)) (gives x)
+      → either (namesOf (h .sure)) writes ≡ put (namesOf (h .sure)) (writesOf x)
       → stateOf r q within ≡ after (stateOf a (holdsOf h) bs) x
   deeper-is (Item.Act y) r q w d o e p = no (sym o)
   deeper-is (Item.Pack y) r q w d o e p = no (sym o)
@@ -87,5 +89,5 @@ no-boxes a o = record {
   none = λ z. refl;
 }
 
-pub begins : (a : Around) (h : Held) → Outside a → Starts h → stateOf a (holdsOf h) [] ≡ begin
+pub begins : (a : Around) (h : coded.Held) → Outside a → Starts h → stateOf a (holdsOf h) [] ≡ begin
 begins a h o s = rw (o .depth, s .sure, s .packed, s .tagged)

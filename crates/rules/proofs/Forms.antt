@@ -12,7 +12,7 @@ use Rattle.table.specs.declared.Head.the-variants as Head
 use Rattle.table.specs.declared.Sweep.{Sweep}
 use Rattle.table.specs.declared.Sort.the-variants as Sort
 use Rattle.table.specs.Item as Of
-use Rattle.table.specs.Uses.{breaksOrder}
+use Rattle.table.specs.ReadWrite.{breaksOrder}
 use Rattle.rules.specs.Check.{sameName}
 use Rattle.rules.specs.Code.{Form, headForm, plainForm, formBy}
 use Rattle.rules.specs.Code.{isWrong, isOpen, isBranch, isClose, isTag, isTwice, sortIn, orderIn}

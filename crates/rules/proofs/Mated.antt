@@ -12,14 +12,14 @@ use borrow.Author.Tests.{eq-eqb}
 use Rattle.laws.proofs.Bools.{no}
 use Rattle.table.specs.declared.Item.{Item}
 use Rattle.table.specs.declared.Item.the-variants as Item
-use Rattle.table.specs.declared.Script.{Script}
+use Rattle.table.specs.declared.Table.{Table}
 use Rattle.table.specs.declared.Known.the-variants as Known
 use Rattle.table.specs.Item.{isOpen, isBranch, isClose, fits}
-use Rattle.table.specs.Uses.{Kinds, lowest}
+use Rattle.table.specs.ReadWrite.{Kinds, lowest}
 use Rattle.table.specs.Shape.{itemsOf, inShape}
 use Rattle.mates.specs.declared.Open.{Open}
 use Rattle.mates.specs.Mates.{fitsTop, scan, scanAll, belongs, closeFrom, itemAt}
-use Rattle.rules.specs.Check.{State, kindsOf, isEmpty, misplaced, refusals, refusalsAtEnd, Verdict, accepted}
+use Rattle.rules.specs.Check.{Held, kindsOf, isEmpty, misplaced, refusals, refusalsAtEnd, Verdict, accepted}
 use Rattle.rules.specs.Check.{refused, orGo, walk, atLine, walked, verdict}
 use Rattle.rules.specs.Mated.{isFound, Mated}
 use Rattle.rules.proofs.Rows.{no-refusal, no-refusal-at-end}
@@ -111,7 +111,7 @@ module _ (k : Kinds) where
       → (misplaced x (plains (s .boxes)) ≡ false) × (walk k (suc i) (bare (after i s x)) xs ≡ accepted)
   one i s x xs e =
       let d = orGo-accepted (lowest (refusals k (bare s) x)) i _ e in
-      (no-refusal k (bare s) x (d .0) .1 .1 .0, ap (λ (z : State). walk k (suc i) z xs) (same-walk i s x) ∙ d .1)
+      (no-refusal k (bare s) x (d .0) .1 .1 .0, ap (λ (z : Held). walk k (suc i) z xs) (same-walk i s x) ∙ d .1)
 
   none-left : (i : ℕ) (s : Placed) (p : ℕ) → walk k i (bare s) [] ≡ accepted → hasAt p (opensOf (s .boxes)) ≡ true → ⊥
   none-left i s p e h =
@@ -173,10 +173,10 @@ module _ (k : Kinds) where
       (same-open i s x (one i s x xs e .0))
       (closing-at j (suc i) (after i s x) xs (one i s x xs e .1) (le-of-suc-le-suc h) m))
 
-abbrev kinds : Script → Kinds
+abbrev kinds : Table → Kinds
 kinds t = kindsOf (replicate 32 Known.Unknown) (itemsOf t)
 
-pub accepted-mated : (size : ℕ) (t : Script) → verdict size t ≡ accepted → Mated (itemsOf t)
+pub accepted-mated : (size : ℕ) (t : Table) → verdict size t ≡ accepted → Mated (itemsOf t)
 unfolding verdict
 accepted-mated size t e = record {
   inner = λ i h m. inner-at (kinds t) i 0 atStart (itemsOf t) walks h m;

@@ -12,9 +12,9 @@ use borrow.Author.Tests.{eqb-true, eqb-false, leb-true}
 use Rattle.laws.proofs.Bools.{and-l, and-r}
 use Rattle.table.specs.declared.Item.{Item}
 use Rattle.table.specs.declared.Slot.{Slot}
-use Rattle.table.specs.declared.Script.{Script}
-use Rattle.table.specs.Uses.{Kinds, Names, uses, gives}
-use Rattle.table.specs.Shape.{noSlot, slotAt, itemsIn, itemsOf, wantsOk, givesOk, ownOk, itemOk, itemsOk, inShape}
+use Rattle.table.specs.declared.Table.{Table}
+use Rattle.table.specs.ReadWrite.{Kinds, Names, readsOf, writesOf}
+use Rattle.table.specs.Shape.{noSlot, slotAt, itemsIn, itemsOf, readsOk, writesOk, ownOk, itemOk, itemsOk, inShape}
 use Rattle.table.proofs.Items.{drop-items, no-items}
 use Rattle.sets.specs.Names.{either, outside, namesOf}
 use Rattle.sets.proofs.Bits.{length-names}
@@ -23,17 +23,17 @@ use Rattle.rules.specs.Code.{Form, Brief, Briefs, Noted, Notes, notes, N
 use Rattle.rules.specs.declared.briefs.Form.the-variants as Form
 
 -- of an item whose names are among the 32
-noted : {k : Kinds} {x : Item} {b : Brief} (names : ℕ) → Briefs k x b → names ≤ 32 → wantsOk names (uses x) ≡ true
+noted : {k : Kinds} {x : Item} {b : Brief} (names : ℕ) → Briefs k x b → names ≤ 32 → readsOk names (readsOf x) ≡ true
     → Noted k x (b .reads) (b .writes) (b .form)
 noted {x = x} names b h o = record {
   missed = λ s. ap (λ (r : Names). outside r (namesOf s)) (b .reads)
-      ∙ read-outside names (namesOf s) (uses x) h (length-names s) o;
-  adds = λ s. ap (either (namesOf s)) (b .writes) ∙ put-either (namesOf s) (gives x) (length-names s);
+      ∙ read-outside names (namesOf s) (readsOf x) h (length-names s) o;
+  adds = λ s. ap (either (namesOf s)) (b .writes) ∙ put-either (namesOf s) (writesOf x) (length-names s);
   form = b .form;
 }
 
 -- the items before i are in the three rows
-pub record Noting (t : Script) (k : Kinds) (s : Notes) (i : ℕ) : Type 0 where
+pub record Noting (t : Table) (k : Kinds) (s : Notes) (i : ℕ) : Type 0 where
   pub within : i ≤ t .count
   pub reads : length (s .reads) ≡ 128
   pub writes : length (s .writes) ≡ 128
@@ -42,7 +42,7 @@ pub record Noting (t : Script) (k : Kinds) (s : Notes) (i : ℕ) : Type 0 where
       → Noted k (slotAt t j .item) (getD (s .reads) j 0) (getD (s .writes) j 0) (getD (s .forms) j Form.Wrong)
 
 -- one item further
-pub note-next : {t : Script} {k : Kinds} {i : ℕ} (rs ws : List ℕ) (fs : List Form) (n : ℕ) {b : Brief} → Reached t
+pub note-next : {t : Table} {k : Kinds} {i : ℕ} (rs ws : List ℕ) (fs : List Form) (n : ℕ) {b : Brief} → Reached t
     → Noting t k (notes rs ws fs n) i → i < t .count → Briefs k (slotAt t i .item) b
     → Noting t k (notes (set rs i (b .reads)) (set ws i (b .writes)) (set fs i (b .form)) n) (i + 1)
 note-next {t} {k} {i} rs ws fs n {b} r p h e = record {
@@ -74,7 +74,7 @@ note-next {t} {k} {i} rs ws fs n {b} r p h e = record {
         (p .each j (omega (arith, l, other)))
 
 -- all items are in the rows
-pub all-noted : {t : Script} {k : Kinds} {i : ℕ} (rs ws : List ℕ) (fs : List Form)
+pub all-noted : {t : Table} {k : Kinds} {i : ℕ} (rs ws : List ℕ) (fs : List Form)
     → Noting t k (notes rs ws fs (t .count)) i → t .count ≤ i → t .count ≤ length (t .items)
     → Told k (itemsOf t) (notes rs ws fs (t .count))
 all-noted {t} {k} {i} rs ws fs p h l = record {
@@ -99,12 +99,12 @@ module _ (names size : ℕ) where
       item-ok-at n i ss (le-of-suc-le-suc h) (le-of-suc-le-suc l)
       (and-r (itemOk names size (s .item)) (itemsOk names size (itemsIn n ss)) e)
 
-  wants-ok : (x : Item) → itemOk names size x ≡ true → wantsOk names (uses x) ≡ true
-  wants-ok x e =
-      and-r (ownOk names size x) (wantsOk names (uses x))
-      (and-l (ownOk names size x && wantsOk names (uses x)) (givesOk names (gives x)) e)
+  reads-ok : (x : Item) → itemOk names size x ≡ true → readsOk names (readsOf x) ≡ true
+  reads-ok x e =
+      and-r (ownOk names size x) (readsOk names (readsOf x))
+      (and-l (ownOk names size x && readsOk names (readsOf x)) (writesOk names (writesOf x)) e)
 
-module _ (size : ℕ) (t : Script) (shape : inShape size t ≡ true) where
+module _ (size : ℕ) (t : Table) (shape : inShape size t ≡ true) where
   abbrev counts : Bool
   counts = leb (t .count) 128 && leb (t .names) 32
 
@@ -123,6 +123,6 @@ module _ (size : ℕ) (t : Script) (shape : inShape size t ≡ true) where
   reached l = record {
     items = few-items;
     names = leb-true (t .names) 32 (and-r (leb (t .count) 128) (leb (t .names) 32) counted);
-    each = λ i h. wants-ok (t .names) size (slotAt t i .item)
+    each = λ i h. reads-ok (t .names) size (slotAt t i .item)
         (item-ok-at (t .names) size (t .count) i (t .items) h (omega (arith, few-items, l)) all-ok);
   }

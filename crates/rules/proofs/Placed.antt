@@ -11,9 +11,9 @@ use Rattle.table.specs.declared.Branch.{Branch}
 use Rattle.table.specs.declared.Item.{Item}
 use Rattle.table.specs.declared.Item.the-variants as Item
 use Rattle.table.specs.Item.{sortOf, isElse}
-use Rattle.table.specs.Uses.{Names, actGives, headGives, packs}
+use Rattle.table.specs.ReadWrite.{Names, actWrites, headWrites, packs}
 use Rattle.sets.specs.Names.{nothing, everything, both, put}
-use Rattle.rules.specs.Check.{Box as Plain, State, afterBox}
+use Rattle.rules.specs.Check.{Box as Plain, Held, afterBox}
 use Rattle.rules.specs.Check.{after as afterPlain}
 
 pub record Box : Type 0 where
@@ -42,7 +42,7 @@ abbrev pub plains : List Box → List Plain
 plains [] = []
 plains (b ∷ bs) = plain b ∷ plains bs
 
-abbrev pub bare : Placed → State
+abbrev pub bare : Placed → Held
 bare s = record { sure = s .sure; boxes = plains (s .boxes); packed = s .packed; tagged = s .tagged }
 
 pub length-plains : (bs : List Box) → length (plains bs) ≡ length bs
@@ -71,9 +71,9 @@ abbrev pub opened : ℕ → Head → Names → Box
 opened i h s = record { at = i; sort = sortOf h; before = s; everyEnd = everything; elseSeen = false }
 
 abbrev pub after : ℕ → Placed → Item → Placed
-after i s (Item.Act a) = placed (put (s .sure) (actGives a)) (s .boxes) s
+after i s (Item.Act a) = placed (put (s .sure) (actWrites a)) (s .boxes) s
 after i s (Item.Pack p) = record { sure = s .sure; boxes = s .boxes; packed = packs p (s .packed); tagged = s .tagged }
-after i s (Item.Open h) = placed (put (s .sure) (headGives h)) (opened i h (s .sure) ∷ s .boxes) s
+after i s (Item.Open h) = placed (put (s .sure) (headWrites h)) (opened i h (s .sure) ∷ s .boxes) s
 after i s (Item.Branch b) = branched b s (s .boxes)
 after i s (Item.Close e) = closed s (s .boxes)
 after i s Item.Break = s

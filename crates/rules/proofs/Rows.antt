@@ -15,13 +15,14 @@ use Rattle.table.specs.declared.Head.the-variants as Head
 use Rattle.table.specs.declared.Sort.the-variants as Sort
 use Rattle.table.specs.Item as Of
 use Rattle.table.specs.Item.{isLoop}
-use Rattle.table.specs.Uses.{Kinds, kindAt, Names, has, missing, lowest, uses, gives}
+use Rattle.table.specs.ReadWrite.{Kinds, kindAt, Names, has, missing, lowest, readsOf, writesOf}
 use Rattle.sets.specs.Names.{outside, namesOf}
-use Rattle.rules.specs.Check.{Box, State, refusals, refusalsAtEnd, misplaced, baseOf, anyBox, isEmpty}
-use Rattle.rules.specs.Code.{Form, Around, Held, Holds, holdsOf, boxOf, boxesIn, stateOf, Boxed}
+use Rattle.rules.specs.Check.{Box, Held, refusals, refusalsAtEnd, misplaced, baseOf, anyBox, isEmpty}
+use Rattle.rules.specs.Code.{Form, Around, Holds, holdsOf, boxOf, boxesIn, stateOf, Boxed}
 use Rattle.rules.specs.Code.{headForm, plainForm, formBy, wrongBoth, Noted}
 use Rattle.rules.specs.Code.{isWrong, isOpen, isBranch, inIf, baseIn, markIn, rowsIn, rowsAtEnd}
 use Rattle.rules.specs.declared.briefs.Form.the-variants as Form
+use Rattle.rules.specs.declared.written.Held as coded
 use Rattle.rules.proofs.Forms.{no, formed}
 
 pub same-rows : {a a' b b' c c' d d' e e' f f' g g' h h' : Bool}
@@ -83,50 +84,51 @@ module _ (a : Around) (h : Holds) (bs : List Box) where
 
 -- ---- the rows, whatever boxes are around
 
-module _ {k : Kinds} {x : Item} {reads writes : ℕ} {f : Form} (n : Noted k x reads writes f) (a : Around) (h : Held)
-  where
-    -- a base is what held before the box, or what is surely written
-    missed-in : (g : Form)
-        → outside (namesOf reads) (baseIn a (holdsOf h) g) ≡ missing (has (baseIn a (holdsOf h) g)) (uses x)
-    missed-in g = by (isBranch g && inIf a)
+module _ {k : Kinds} {x : Item} {reads writes : ℕ} {f : Form} (n : Noted k x reads writes f) (a : Around)
+    (h : coded.Held) where
+  -- a base is what held before the box, or what is surely written
+  missed-in : (g : Form)
+      → outside (namesOf reads) (baseIn a (holdsOf h) g) ≡ missing (has (baseIn a (holdsOf h) g)) (readsOf x)
+  missed-in g = by (isBranch g && inIf a)
+    where
+      by : (b : Bool) → outside (namesOf reads) (cond b (namesOf (a .before)) (namesOf (h .sure)))
+          ≡ missing (has (cond b (namesOf (a .before)) (namesOf (h .sure)))) (readsOf x)
+      by true = n .missed (a .before)
+      by false = n .missed (h .sure)
+
+  module _ (bs : List Box) (b : Boxed a bs) where
+    abbrev within : List Box
+    within = boxesIn (a .depth) (boxOf a (holdsOf h)) bs
+
+    base-in : (g : Form) → isBranch g ≡ Of.isBranch x
+        → baseIn a (holdsOf h) g ≡ baseOf (Of.isBranch x) (namesOf (h .sure)) within
+    base-in g e = rw e (base-by (a .depth) (Of.isBranch x) (boxOf a (holdsOf h)) (namesOf (h .sure)) bs)
+
+    plain-rows : wrongBoth (kindAt k) (readsOf x) (writesOf x) ≡ false
+        → rowsIn a (holdsOf h) (namesOf reads) (plainForm x) ≡ refusals k (stateOf a (holdsOf h) bs) x
+    plain-rows e =
+        let g = formed x in
+        same-rows
+        (g .right ∙ sym e)
+        (missed-in (plainForm x)
+        ∙ ap (λ (s : Names). missing (has s) (readsOf x)) (base-in (plainForm x) (g .branches)))
+        (mark-in a (holdsOf h) bs (a .depth) refl (b .looped (holdsOf h)) x)
+        (ap₂ (λ (p : Bool) (m : ℕ). p && leb 8 m) (g .opens') (sym (b .count (holdsOf h))))
+        (g .order (h .packed))
+        (ap₂ (λ (p q : Bool). p && (h .tagged || q)) (g .tags) (open-in (a .depth) (boxOf a (holdsOf h)) bs))
+        (g .twice)
+        (ap₂ (λ (p q : Bool). p && q) (g .sweeps) (b .swept (holdsOf h)))
+
+    pub judged-in : lowest (rowsIn a (holdsOf h) (namesOf reads) f) ≡ lowest (refusals k (stateOf a (holdsOf h) bs) x)
+    judged-in =
+        ap (λ (g : Form). lowest (rowsIn a (holdsOf h) (namesOf reads) g)) (n .form)
+        ∙ by (wrongBoth (kindAt k) (readsOf x) (writesOf x)) refl
       where
-        by : (b : Bool) → outside (namesOf reads) (cond b (namesOf (a .before)) (namesOf (h .sure)))
-            ≡ missing (has (cond b (namesOf (a .before)) (namesOf (h .sure)))) (uses x)
-        by true = n .missed (a .before)
-        by false = n .missed (h .sure)
-
-    module _ (bs : List Box) (b : Boxed a bs) where
-      abbrev within : List Box
-      within = boxesIn (a .depth) (boxOf a (holdsOf h)) bs
-
-      base-in : (g : Form) → isBranch g ≡ Of.isBranch x
-          → baseIn a (holdsOf h) g ≡ baseOf (Of.isBranch x) (namesOf (h .sure)) within
-      base-in g e = rw e (base-by (a .depth) (Of.isBranch x) (boxOf a (holdsOf h)) (namesOf (h .sure)) bs)
-
-      plain-rows : wrongBoth (kindAt k) (uses x) (gives x) ≡ false
-          → rowsIn a (holdsOf h) (namesOf reads) (plainForm x) ≡ refusals k (stateOf a (holdsOf h) bs) x
-      plain-rows e =
-          let g = formed x in
-          same-rows
-          (g .right ∙ sym e)
-          (missed-in (plainForm x) ∙ ap (λ (s : Names). missing (has s) (uses x)) (base-in (plainForm x) (g .branches)))
-          (mark-in a (holdsOf h) bs (a .depth) refl (b .looped (holdsOf h)) x)
-          (ap₂ (λ (p : Bool) (m : ℕ). p && leb 8 m) (g .opens') (sym (b .count (holdsOf h))))
-          (g .order (h .packed))
-          (ap₂ (λ (p q : Bool). p && (h .tagged || q)) (g .tags) (open-in (a .depth) (boxOf a (holdsOf h)) bs))
-          (g .twice)
-          (ap₂ (λ (p q : Bool). p && q) (g .sweeps) (b .swept (holdsOf h)))
-
-      pub judged-in : lowest (rowsIn a (holdsOf h) (namesOf reads) f) ≡ lowest (refusals k (stateOf a (holdsOf h) bs) x)
-      judged-in =
-          ap (λ (g : Form). lowest (rowsIn a (holdsOf h) (namesOf reads) g)) (n .form)
-          ∙ by (wrongBoth (kindAt k) (uses x) (gives x)) refl
-        where
-          by : (q : Bool) → wrongBoth (kindAt k) (uses x) (gives x) ≡ q
-              → lowest (rowsIn a (holdsOf h) (namesOf reads) (formBy q x))
-              ≡ lowest (refusals k (stateOf a (holdsOf h) bs) x)
-          by true e = rw e
-          by false e = ap lowest (plain-rows e)
+        by : (q : Bool) → wrongBoth (kindAt k) (readsOf x) (writesOf x) ≡ q
+            → lowest (rowsIn a (holdsOf h) (namesOf reads) (formBy q x))
+            ≡ lowest (refusals k (stateOf a (holdsOf h) bs) x)
+        by true e = rw e
+        by false e = ap lowest (plain-rows e)
 
 pub end-in : (a : Around) (h : Holds) (bs : List Box)
     → rowsAtEnd (a .depth) (h .packed) ≡ refusalsAtEnd (stateOf a h bs)
@@ -164,10 +166,10 @@ eight = (
   (omega arith, (omega arith, (omega arith, (omega arith, (omega arith, (omega arith, (omega arith, tt))))))),
 )
 
-pub no-refusal : (k : Kinds) (s : State) (x : Item) → lowest (refusals k s x) ≡ 0 → Quiet (refusals k s x)
+pub no-refusal : (k : Kinds) (s : Held) (x : Item) → lowest (refusals k s x) ≡ 0 → Quiet (refusals k s x)
 no-refusal k s x e = quiet (refusals k s x) eight e
 
-pub no-refusal-at-end : (s : State) → lowest (refusalsAtEnd s) ≡ 0 → Quiet (refusalsAtEnd s)
+pub no-refusal-at-end : (s : Held) → lowest (refusalsAtEnd s) ≡ 0 → Quiet (refusalsAtEnd s)
 no-refusal-at-end s e = quiet (refusalsAtEnd s) (omega arith, (omega arith, tt)) e
 
 module _ (a : Around) (h : Holds) (reads : Names) (f : Form) (e : lowest (rowsIn a h reads f) ≡ 0) where

@@ -7,7 +7,7 @@ use native.Mathlib.Omega.{arith}
 use lib.ListN.{length, getD, set, replicate}
 use lib.Seq.{set-getD}
 use Rattle.laws.proofs.Bools.{no}
-use Rattle.table.specs.Uses.{Names, has, Kinds, kindAt, differ}
+use Rattle.table.specs.ReadWrite.{Names, has, Kinds, kindAt, differ}
 use Rattle.sets.specs.Names.{nothing, namesOf}
 use Rattle.sets.proofs.Bits.{length-names}
 use Rattle.table.specs.declared.Known.{Known}

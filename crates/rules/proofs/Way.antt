@@ -7,47 +7,48 @@ use native.Mathlib.Omega.{arith}
 use native.Mathlib.Numerals.{add-one}
 use lib.ListN.{drop, getD, replicate}
 use Rattle.table.specs.declared.Item.{Item}
-use Rattle.table.specs.declared.Script.{Script}
+use Rattle.table.specs.declared.Table.{Table}
 use Rattle.table.specs.declared.Known.the-variants as Known
-use Rattle.table.specs.Uses.{Kinds, kindAt, uses, gives, lowest}
+use Rattle.table.specs.ReadWrite.{Kinds, kindAt, readsOf, writesOf, lowest}
 use Rattle.table.specs.Shape.{itemsOf, inShape}
 use Rattle.sets.specs.Names.{namesOf}
-use Rattle.rules.specs.Check.{Box, State, begin, kindsOf, refusals, refusalsAtEnd, after, Verdict, accepted}
+use Rattle.rules.specs.Check.{Box, Held, begin, kindsOf, refusals, refusalsAtEnd, after, Verdict, accepted}
 use Rattle.rules.specs.Check.{refused, orGo, walk, lineOf, atLine, verdict}
-use Rattle.rules.specs.declared.Rule.{Rule}
+use Rattle.rules.specs.declared.Refusal.{Refusal}
 use Rattle.rules.specs.declared.Finding.{Finding}
 use Rattle.rules.specs.declared.Finding.the-variants as Finding
 use Rattle.rules.specs.Verdict.{numberOf, found}
-use Rattle.rules.specs.Code.{Form, Around, Held, Holds, holdsOf, boxOf, boxesIn, stateOf, stateAfter, Boxed}
+use Rattle.rules.specs.Code.{Form, Around, Holds, holdsOf, boxOf, boxesIn, stateOf, stateAfter, Boxed}
 use Rattle.rules.specs.Code.{Notes, NotedAt, Told, isOpen, isClose, rowsIn, rowsAtEnd, moved, Deeper, entered}
 use Rattle.rules.specs.Code.{Outside, Starts, Walk, Out, restOf, comeTo, comeOut, outcome, outState}
 use Rattle.rules.specs.Code.{backBy, leftBy, Went, Took, plainForm, wrongBoth, markIn}
-use Rattle.rules.specs.declared.Rule.the-variants as Rule
+use Rattle.rules.specs.declared.Refusal.the-variants as Refusal
 use Rattle.rules.specs.declared.briefs.Form.the-variants as Form
+use Rattle.rules.specs.declared.written.Held as coded
 use Rattle.rules.proofs.Forms.{no, plain-form}
 use Rattle.rules.proofs.Rows.{judged-in, end-in, no-mark, right-form, no-box-left}
 use Rattle.rules.proofs.After.{moved-is, close-inside, deeper-is, deeper-boxed, no-boxes, begins}
 
 -- ---- a finding
 
-number-positive : (r : Rule) → 19 ≤ numberOf r
-number-positive Rule.Kinds = omega arith
-number-positive Rule.Unwritten = omega arith
-number-positive Rule.Mark = omega arith
-number-positive Rule.Ninth = omega arith
-number-positive Rule.Package = omega arith
-number-positive Rule.Tag = omega arith
-number-positive Rule.SameName = omega arith
-number-positive Rule.Nested = omega arith
-number-positive Rule.Shape = omega arith
+number-positive : (r : Refusal) → 19 ≤ numberOf r
+number-positive Refusal.Kinds = omega arith
+number-positive Refusal.Unwritten = omega arith
+number-positive Refusal.Mark = omega arith
+number-positive Refusal.Ninth = omega arith
+number-positive Refusal.Package = omega arith
+number-positive Refusal.Tag = omega arith
+number-positive Refusal.SameName = omega arith
+number-positive Refusal.Nested = omega arith
+number-positive Refusal.Shape = omega arith
 
-positive : {f : Finding} {q : Rule} → f ≡ Finding.Broken q → found f ≡ 0 → ⊥
+positive : {f : Finding} {q : Refusal} → f ≡ Finding.Broken q → found f ≡ 0 → ⊥
 positive {f} {q} e z = never (number-positive q) (sym (ap found e) ∙ z)
   where
     never : {n : ℕ} → 19 ≤ n → n ≡ 0 → ⊥
     never h e = omega arith
 
-pub not-nothing : {X : Type 0} {f : Finding} {q : Rule} → f ≡ Finding.Broken q → f ≡ Finding.Nothing → X
+pub not-nothing : {X : Type 0} {f : Finding} {q : Refusal} → f ≡ Finding.Broken q → f ≡ Finding.Nothing → X
 not-nothing e n = absurd (positive e (ap found n))
 
 orGo-same : (n i : ℕ) (u v : Verdict) → (n ≡ 0 → ⊥) → orGo n i u ≡ orGo n i v
@@ -55,18 +56,18 @@ orGo-same zero i u v h = absurd (h refl)
 orGo-same (suc n) i u v h = refl
 
 -- at the end of the items
-rest-end : (k : Kinds) (xs : List Item) (i : ℕ) → drop i xs ≡ [] → (s : State)
+rest-end : (k : Kinds) (xs : List Item) (i : ℕ) → drop i xs ≡ [] → (s : Held)
     → restOf k xs i s ≡ orGo (lowest (refusalsAtEnd s)) i accepted
 unfolding restOf
 rest-end k xs i e s = rw e
 
 -- ---- the item checker's ways out: item i of a row is judged where the checker stands
 
-pub record Judged (t : Notes) (i : ℕ) (a : Around) (h : Held) (f : Finding) : Type 0 where
+pub record Judged (t : Notes) (i : ℕ) (a : Around) (h : coded.Held) (f : Finding) : Type 0 where
   pub there : i < t .count
   pub number : found f ≡ lowest (rowsIn a (holdsOf h) (namesOf (getD (t .reads) i 0)) (getD (t .forms) i Form.Wrong))
 
-module _ {t : Notes} {i : ℕ} {a : Around} {h : Held} {f : Finding} (j : Judged t i a h f) where
+module _ {t : Notes} {i : ℕ} {a : Around} {h : coded.Held} {f : Finding} (j : Judged t i a h f) where
   abbrev form : Form
   form = getD (t .forms) i Form.Wrong
 
@@ -75,7 +76,7 @@ module _ {t : Notes} {i : ℕ} {a : Around} {h : Held} {f : Finding} (j : Judged
     abbrev now' : NotedAt k xs t i
     now' = told .each i (j .there)
 
-    abbrev state : State
+    abbrev state : Held
     state = stateOf a (holdsOf h) bs
 
     rest-next : restOf k xs i state ≡ orGo (found f) i (restOf k xs (i + 1) (after state (now' .item)))
@@ -91,11 +92,12 @@ module _ {t : Notes} {i : ℕ} {a : Around} {h : Held} {f : Finding} (j : Judged
 
     is-plain : f ≡ Finding.Nothing → form ≡ plainForm (now' .item)
     is-plain e =
-        plain-form (wrongBoth (kindAt k) (uses (now' .item)) (gives (now' .item))) (now' .item) (now' .noted .form)
+        plain-form (wrongBoth (kindAt k) (readsOf (now' .item)) (writesOf (now' .item))) (now' .item)
+        (now' .noted .form)
         (right-form a (holdsOf h) (namesOf (getD (t .reads) i 0)) form (sym (j .number) ∙ ap found e))
 
   -- refused there
-  pub refused-at : {q : Rule} → f ≡ Finding.Broken q
+  pub refused-at : {q : Refusal} → f ≡ Finding.Broken q
       → Took t i a h (record { at = i; finding = f; closed = false; held = h })
   unfolding comeTo
   refused-at e = record {
@@ -107,7 +109,7 @@ module _ {t : Notes} {i : ℕ} {a : Around} {h : Held} {f : Finding} (j : Judged
   }
 
   -- one item further
-  pub passed : f ≡ Finding.Nothing → isOpen form ≡ false → (c : Bool) → c ≡ isClose form → (q : Held)
+  pub passed : f ≡ Finding.Nothing → isOpen form ≡ false → (c : Bool) → c ≡ isClose form → (q : coded.Held)
       → holdsOf q ≡ moved a (holdsOf h) (namesOf (getD (t .writes) i 0)) form
       → Took t i a h (record { at = i + 1; finding = Finding.Nothing; closed = c; held = q })
   unfolding comeTo
@@ -132,7 +134,7 @@ module _ {t : Notes} {i : ℕ} {a : Around} {h : Held} {f : Finding} (j : Judged
           (sym (ap isOpen p) ∙ o) (sym (ap (markIn a (holdsOf h)) p) ∙ unmarked) (now' told bs b .noted .adds (h .sure))
 
   -- past the box that the item opens
-  pub opened : f ≡ Finding.Nothing → isOpen form ≡ true → (r : Around) → Deeper a h form r → (q : Held)
+  pub opened : f ≡ Finding.Nothing → isOpen form ≡ true → (r : Around) → Deeper a h form r → (q : coded.Held)
       → holdsOf q ≡ entered (holdsOf h) (namesOf (getD (t .writes) i 0)) → (out : Out) → Went t (i + 1) r q out
       → Took t i a h (backBy out h)
   unfolding comeTo comeOut
@@ -158,13 +160,13 @@ module _ {t : Notes} {i : ℕ} {a : Around} {h : Held} {f : Finding} (j : Judged
 -- ---- the block checker's
 
 -- the verdict to come from there is that from here, whatever is around
-pub record Same (t : Notes) (a : Around) (j : ℕ) (g : Held) (i : ℕ) (h : Held) : Type 0 where
+pub record Same (t : Notes) (a : Around) (j : ℕ) (g : coded.Held) (i : ℕ) (h : coded.Held) : Type 0 where
   pub still : (k : Kinds) (xs : List Item) → Told k xs t → (bs : List Box) → Boxed a bs
       → restOf k xs j (stateOf a (holdsOf g) bs) ≡ restOf k xs i (stateOf a (holdsOf h) bs)
   pub onward : i ≤ j
   pub within : j ≤ t .count
 
-module _ {t : Notes} {a : Around} {i j : ℕ} {h g : Held} (s : Same t a j g i h) where
+module _ {t : Notes} {a : Around} {i j : ℕ} {h g : coded.Held} (s : Same t a j g i h) where
   pub again : {r : Walk} → Took t j a g r → r .finding ≡ Finding.Nothing → r .closed ≡ false
       → Same t a (r .at) (r .held) i h
   unfolding comeTo
@@ -176,7 +178,7 @@ module _ {t : Notes} {a : Around} {i j : ℕ} {h g : Held} (s : Same t a j g i h
     within = w .within;
   }
 
-  pub out-refused : {r : Walk} {q : Rule} → Took t j a g r → r .finding ≡ Finding.Broken q → Went t i a h (leftBy r)
+  pub out-refused : {r : Walk} {q : Refusal} → Took t j a g r → r .finding ≡ Finding.Broken q → Went t i a h (leftBy r)
   unfolding comeTo comeOut
   out-refused {r} w e = record {
     same = λ k xs told bs b. orGo-same (found (r .finding)) (r .at) _ _ (positive e) ∙ w .same k xs told bs b
@@ -207,7 +209,7 @@ module _ {t : Notes} {a : Around} {i j : ℕ} {h g : Held} (s : Same t a j g i h
     done = λ k xs told bs b o z. none-left k xs told bs b (ap found z);
   }
     where
-      out : List Box → State
+      out : List Box → Held
       out bs = outState (record { at = j; finding = f; sure = g .sure; packed = g .packed; tagged = g .tagged }) bs
 
       none-left : (k : Kinds) (xs : List Item) → Told k xs t → (bs : List Box) → Boxed a bs → found f ≡ 0
@@ -230,11 +232,11 @@ module _ {t : Notes} {a : Around} {i j : ℕ} {h g : Held} (s : Same t a j g i h
 
 -- ---- the whole row
 
-pub came : (t : Notes) {k : Kinds} {xs : List Item} (a : Around) (h : Held) (r : Out) → Told k xs t → Outside a
+pub came : (t : Notes) {k : Kinds} {xs : List Item} (a : Around) (h : coded.Held) (r : Out) → Told k xs t → Outside a
     → Starts h → Went t 0 a h r → outcome r ≡ walk k 0 begin xs
 unfolding comeOut restOf
 came t {k} {xs} a h r told o s w =
-    by (r .finding) refl ∙ w .same k xs told [] (no-boxes a o) ∙ ap (λ (z : State). walk k 0 z xs) (begins a h o s)
+    by (r .finding) refl ∙ w .same k xs told [] (no-boxes a o) ∙ ap (λ (z : Held). walk k 0 z xs) (begins a h o s)
   where
     by : (f : Finding) → r .finding ≡ f
         → outcome r ≡ orGo (found (r .finding)) (r .at) (restOf k xs (r .at) (outState r []))
@@ -245,7 +247,7 @@ came t {k} {xs} a h r told o s w =
 
 -- ---- the verdict
 
-module _ (size : ℕ) (t : Script) where
+module _ (size : ℕ) (t : Table) where
   pub out-of-shape : inShape size t ≡ false → refused 30 0 ≡ verdict size t
   unfolding verdict
   out-of-shape e = rw e
@@ -263,18 +265,18 @@ module _ (size : ℕ) (t : Script) where
   pub says-accepted : {k : Kinds} {r : Out} → Ended k r → r .finding ≡ Finding.Nothing → accepted ≡ verdict size t
   says-accepted e n = rw n at (in-shape e)
 
-  pub says-refused : {k : Kinds} {r : Out} → Ended k r → {q : Rule} (line : ℕ) → r .finding ≡ Finding.Broken q
+  pub says-refused : {k : Kinds} {r : Out} → Ended k r → {q : Refusal} (line : ℕ) → r .finding ≡ Finding.Broken q
       → line ≡ lineOf t (r .at) → refused (numberOf q) line ≡ verdict size t
   says-refused {r = r} e {q} line b l = rw l (sym (number-stands q) ∙ (rw b at (in-shape e)))
     where
-      number-stands : (q : Rule)
+      number-stands : (q : Refusal)
           → atLine t (orGo (numberOf q) (r .at) accepted) ≡ refused (numberOf q) (lineOf t (r .at))
-      number-stands Rule.Kinds = refl
-      number-stands Rule.Unwritten = refl
-      number-stands Rule.Mark = refl
-      number-stands Rule.Ninth = refl
-      number-stands Rule.Package = refl
-      number-stands Rule.Tag = refl
-      number-stands Rule.SameName = refl
-      number-stands Rule.Nested = refl
-      number-stands Rule.Shape = refl
+      number-stands Refusal.Kinds = refl
+      number-stands Refusal.Unwritten = refl
+      number-stands Refusal.Mark = refl
+      number-stands Refusal.Ninth = refl
+      number-stands Refusal.Package = refl
+      number-stands Refusal.Tag = refl
+      number-stands Refusal.SameName = refl
+      number-stands Refusal.Nested = refl
+      number-stands Refusal.Shape = refl

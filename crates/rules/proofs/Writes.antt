@@ -11,12 +11,12 @@ use Rattle.table.specs.declared.Act.the-variants as Act
 use Rattle.table.specs.declared.Item.{Item}
 use Rattle.table.specs.declared.Item.the-variants as Item
 use Rattle.table.specs.declared.Slot.{Slot}
-use Rattle.table.specs.declared.Script.{Script}
+use Rattle.table.specs.declared.Table.{Table}
 use Rattle.table.specs.declared.Known.{Known}
 use Rattle.table.specs.declared.Known.the-variants as Known
-use Rattle.table.specs.declared.Gives.{Gives}
-use Rattle.table.specs.Uses.{Kinds, kindAt, actGives, gives}
-use Rattle.table.specs.Code.{allGives}
+use Rattle.table.specs.declared.Writes.{Writes}
+use Rattle.table.specs.ReadWrite.{Kinds, kindAt, actWrites, writesOf}
+use Rattle.table.specs.Code.{allWrites}
 use Rattle.table.specs.Shape.{noSlot, itemsOf}
 use Rattle.table.proofs.Items.{drop-items, no-items}
 use Rattle.rules.specs.Check.{isKnown, passedAct, orElse, learn, learnItem, kindsOf}
@@ -30,7 +30,7 @@ or-unknown Known.Unknown = refl
 or-unknown (Known.Of j) = refl
 
 -- what is passed over would teach nothing
-acts : (k : Kinds) (a : Act) → cond (passedAct k a) k (learn k (actGives a)) ≡ learn k (actGives a)
+acts : (k : Kinds) (a : Act) → cond (passedAct k a) k (learn k (actWrites a)) ≡ learn k (actWrites a)
 acts k (Act.Var v) = refl
 acts k (Act.Store v l t) = refl
 acts k (Act.Copy a b) = by (kindAt k a)
@@ -50,7 +50,7 @@ acts k Act.CellOn = refl
 acts k Act.CellOff = refl
 acts k Act.Abort = refl
 
-pub learns : (k : Kinds) (x : Item) → learnItem k x ≡ learn k (gives x)
+pub learns : (k : Kinds) (x : Item) → learnItem k x ≡ learn k (writesOf x)
 learns k (Item.Act a) = acts k a
 learns k (Item.Pack p) = refl
 learns k (Item.Open h) = refl
@@ -60,14 +60,14 @@ learns k Item.Break = refl
 learns k Item.Tag = refl
 
 -- the pass has come to item i: what the rest teaches beside what is learnt is what all items teach
-pub record Learning (t : Script) (k : Kinds) (i : ℕ) : Type 0 where
+pub record Learning (t : Table) (k : Kinds) (i : ℕ) : Type 0 where
   pub within : i ≤ t .count
   pub left : kindsOf k (drop i (itemsOf t)) ≡ kindsOf (replicate 32 Known.Unknown) (itemsOf t)
 
 -- one item further, by the code's steps: the slot, what its item writes, what is learnt of that
-pub kinds-next : (t : Script) (i : ℕ) {k : Kinds} → Learning t k i → (s : Slot) (g : Gives) (r : Kinds)
-    → i < t .count → t .count ≤ length (t .items) → s ≡ getD (t .items) i noSlot → allGives g ≡ gives (s .item)
-    → r ≡ learn k (allGives g) → Learning t r (i + 1)
+pub kinds-next : (t : Table) (i : ℕ) {k : Kinds} → Learning t k i → (s : Slot) (g : Writes) (r : Kinds)
+    → i < t .count → t .count ≤ length (t .items) → s ≡ getD (t .items) i noSlot → allWrites g ≡ writesOf (s .item)
+    → r ≡ learn k (allWrites g) → Learning t r (i + 1)
 kinds-next t i {k} l s g r h m e f d = record {
   within = omega arith;
   left = further ∙ l .left;
@@ -79,6 +79,6 @@ kinds-next t i {k} l s g r h m e f d = record {
         rw (d, f, e, drop-items (t .count) i (t .items) h m, add-one)
         (ap (λ (q : Kinds). kindsOf q (drop (suc i) (itemsOf t))) same)
 
-pub kinds-end : {t : Script} {k : Kinds} {i : ℕ} → Learning t k i → t .count ≤ i
+pub kinds-end : {t : Table} {k : Kinds} {i : ℕ} → Learning t k i → t .count ≤ i
     → k ≡ kindsOf (replicate 32 Known.Unknown) (itemsOf t)
 kinds-end {t} {k} {i} l h = sym (ap (kindsOf k) (no-items (t .count) i (t .items) h)) ∙ l .left

@@ -10,7 +10,7 @@ use Rattle.table.specs.declared.Act.the-variants as Act
 use Rattle.table.specs.declared.Head.{Head}
 use Rattle.table.specs.declared.Head.the-variants as Head
 use Rattle.table.specs.declared.Branch.{Branch}
-use Rattle.table.specs.declared.Script.{Script}
+use Rattle.table.specs.declared.Table.{Table}
 use Rattle.table.specs.declared.Item.{Item}
 use Rattle.table.specs.declared.Item.the-variants as Item
 use Rattle.table.specs.declared.Sort.{Sort}
@@ -18,11 +18,12 @@ use Rattle.table.specs.declared.Sort.the-variants as Sort
 use Rattle.table.specs.declared.Known.{Known}
 use Rattle.table.specs.declared.Known.the-variants as Known
 use Rattle.table.specs.declared.Kind.the-variants as Kind
-use Rattle.table.specs.declared.Give.{Give}
-use Rattle.table.specs.declared.Give.the-variants as Give
+use Rattle.table.specs.declared.Write.{Write}
+use Rattle.table.specs.declared.Write.the-variants as Write
 use Rattle.table.specs.Item.{sortOf, isOpen, isBranch, isClose, isBreak, isTag, isElse, isLoop, isSweep, opensA, fits}
-use Rattle.table.specs.Uses.{Kinds, kindAt, kindIn, Names, has, uses, gives, actGives, headGives, wrong, wrongGive}
-use Rattle.table.specs.Uses.{missing, breaksOrder, packs, lowest}
+use Rattle.table.specs.ReadWrite.{Kinds, kindAt, kindIn, Names, has, readsOf, writesOf, actWrites, headWrites, wrong}
+use Rattle.table.specs.ReadWrite.{wrongWrite}
+use Rattle.table.specs.ReadWrite.{missing, breaksOrder, packs, lowest}
 use Rattle.table.specs.Shape.{slotAt, itemsOf, inShape}
 use Rattle.sets.specs.Names.{nothing, everything, both, put}
 
@@ -64,13 +65,13 @@ abbrev pub orElse : Known → Known → Known
 orElse Known.Unknown k = k
 orElse (Known.Of j) k = Known.Of j
 
-abbrev pub learn : Kinds → List Give → Kinds
+abbrev pub learn : Kinds → List Write → Kinds
 learn k [] = k
-learn k (Give.Like n x ∷ gs) = learn (set k n (orElse (kindAt k n) (kindIn (kindAt k) x))) gs
-learn k (Give.Float n ∷ gs) = learn (set k n (orElse (kindAt k n) (Known.Of Kind.Real))) gs
+learn k (Write.Like n x ∷ gs) = learn (set k n (orElse (kindAt k n) (kindIn (kindAt k) x))) gs
+learn k (Write.Float n ∷ gs) = learn (set k n (orElse (kindAt k n) (Known.Of Kind.Real))) gs
 
 abbrev pub learnItem : Kinds → Item → Kinds
-learnItem k x = cond (passedOver k x) k (learn k (gives x))
+learnItem k x = cond (passedOver k x) k (learn k (writesOf x))
 
 abbrev pub kindsOf : Kinds → List Item → Kinds
 kindsOf k [] = k
@@ -86,13 +87,13 @@ pub record Box : Type 0 where
   pub everyEnd : Names
   pub elseSeen : Bool
 
-pub record State : Type 0 where
+pub record Held : Type 0 where
   pub sure : Names
   pub boxes : List Box
   pub packed : Bool
   pub tagged : Bool
 
-abbrev pub begin : State
+abbrev pub begin : Held
 begin = record { sure = nothing; boxes = []; packed = false; tagged = false }
 
 abbrev pub anyBox : (Sort → Bool) → List Box → Bool
@@ -111,7 +112,7 @@ baseOf false s bs = s
 baseOf true s [] = s
 baseOf true s (b ∷ bs) = cond (isLoop (b .sort)) s (b .before)
 
-abbrev pub base : State → Item → Names
+abbrev pub base : Held → Item → Names
 base s x = baseOf (isBranch x) (s .sure) (s .boxes)
 
 -- 21: a branch or closing mark without its box, a branch after else, breakloop in no loop
@@ -137,10 +138,10 @@ sameName (Item.Close e) = false
 sameName Item.Break = false
 sameName Item.Tag = false
 
-abbrev pub refusals : Kinds → State → Item → List (ℕ × Bool)
+abbrev pub refusals : Kinds → Held → Item → List (ℕ × Bool)
 refusals k s x =
-    (19, wrong (kindAt k) (uses x) || wrongGive (kindAt k) (gives x))
-    ∷ (20, missing (has (base s x)) (uses x))
+    (19, wrong (kindAt k) (readsOf x) || wrongWrite (kindAt k) (writesOf x))
+    ∷ (20, missing (has (base s x)) (readsOf x))
     ∷ (21, misplaced x (s .boxes))
     ∷ (22, isOpen x && leb 8 (length (s .boxes)))
     ∷ (23, breaksOrder x (s .packed))
@@ -150,7 +151,7 @@ refusals k s x =
     ∷ []
 
 -- at the end: a box open, a package open
-abbrev pub refusalsAtEnd : State → List (ℕ × Bool)
+abbrev pub refusalsAtEnd : Held → List (ℕ × Bool)
 refusalsAtEnd s = (21, not (isEmpty (s .boxes))) ∷ (23, s .packed) ∷ []
 
 -- ---- the state after an item
@@ -163,7 +164,7 @@ afterBox Sort.Loop b s = b .before
 afterBox Sort.Sweep b s = b .before
 
 -- each branch starts with what held before its if
-abbrev pub branched : Branch → State → List Box → State
+abbrev pub branched : Branch → Held → List Box → Held
 branched x s [] = s
 branched x s (b ∷ bs) = record {
   sure = b .before;
@@ -177,19 +178,19 @@ branched x s (b ∷ bs) = record {
   tagged = s .tagged;
 }
 
-abbrev pub closed : State → List Box → State
+abbrev pub closed : Held → List Box → Held
 closed s [] = s
 closed s (b ∷ bs) =
     record { sure = afterBox (b .sort) b (s .sure); boxes = bs; packed = s .packed; tagged = s .tagged }
 
 -- a loop body starts with what held before it, plus both names for a measuring loop; at the tag nothing is surely
 -- written
-abbrev pub after : State → Item → State
+abbrev pub after : Held → Item → Held
 after s (Item.Act a) =
-    record { sure = put (s .sure) (actGives a); boxes = s .boxes; packed = s .packed; tagged = s .tagged }
+    record { sure = put (s .sure) (actWrites a); boxes = s .boxes; packed = s .packed; tagged = s .tagged }
 after s (Item.Pack p) = record { sure = s .sure; boxes = s .boxes; packed = packs p (s .packed); tagged = s .tagged }
 after s (Item.Open h) = record {
-  sure = put (s .sure) (headGives h);
+  sure = put (s .sure) (headWrites h);
   boxes = record { sort = sortOf h; before = s .sure; everyEnd = everything; elseSeen = false } ∷ s .boxes;
   packed = s .packed;
   tagged = s .tagged;
@@ -210,21 +211,21 @@ abbrev pub orGo : ℕ → ℕ → Verdict → Verdict
 orGo zero i v = v
 orGo (suc n) i v = refused (suc n) i
 
-abbrev pub walk : Kinds → ℕ → State → List Item → Verdict
+abbrev pub walk : Kinds → ℕ → Held → List Item → Verdict
 walk k i s [] = orGo (lowest (refusalsAtEnd s)) i accepted
 walk k i s (x ∷ xs) = orGo (lowest (refusals k s x)) i (walk k (suc i) (after s x) xs)
 
 -- the line of item i, or the ending line
-abbrev pub lineOf : Script → ℕ → ℕ
+abbrev pub lineOf : Table → ℕ → ℕ
 lineOf t i = cond (ltb i (t .count)) (slotAt t i .line) (t .end)
 
-abbrev pub atLine : Script → Verdict → Verdict
+abbrev pub atLine : Table → Verdict → Verdict
 atLine t accepted = accepted
 atLine t (refused n i) = refused n (lineOf t i)
 
-abbrev pub walked : Script → Verdict
+abbrev pub walked : Table → Verdict
 walked t = walk (kindsOf (replicate 32 Known.Unknown) (itemsOf t)) 0 begin (itemsOf t)
 
 -- of a script of so many bytes
-unfoldable pub verdict : ℕ → Script → Verdict
+unfoldable pub verdict : ℕ → Table → Verdict
 verdict size t = cond (inShape size t) (atLine t (walked t)) (refused 30 0)

@@ -9,7 +9,7 @@ use lib.Dec.{eqb, leb}
 use lib.ListN.{length, getD, set, drop}
 use Rattle.table.specs.declared.Item.{Item}
 use Rattle.table.specs.declared.Item.the-variants as Item
-use Rattle.table.specs.declared.Script.{Script}
+use Rattle.table.specs.declared.Table.{Table}
 use Rattle.table.specs.declared.Pack.{Pack}
 use Rattle.table.specs.declared.Pack.the-variants as Pack
 use Rattle.table.specs.declared.Head.{Head}
@@ -21,13 +21,13 @@ use Rattle.table.specs.declared.Sort.the-variants as Sort
 use Rattle.table.specs.declared.Known.{Known}
 use Rattle.table.specs.declared.Known.the-variants as Known
 use Rattle.table.specs.declared.Kind.the-variants as Kind
-use Rattle.table.specs.declared.Want.{Want}
-use Rattle.table.specs.declared.Give.{Give}
+use Rattle.table.specs.declared.Read.{Read}
+use Rattle.table.specs.declared.Write.{Write}
 use Rattle.table.specs.Item.{isElse, isLoop, isSweep}
-use Rattle.table.specs.Uses.{Kinds, kindAt, Names, has, uses, gives, wrong, wrongGive, missing, lowest}
-use Rattle.table.specs.Shape.{slotAt, wantsOk}
+use Rattle.table.specs.ReadWrite.{Kinds, kindAt, Names, has, readsOf, writesOf, wrong, wrongWrite, missing, lowest}
+use Rattle.table.specs.Shape.{slotAt, readsOk}
 use Rattle.sets.specs.Names.{nothing, everything, both, either, outside, asks, put, namesOf}
-use Rattle.rules.specs.Check.{orElse, Box, State, anyBox, afterBox, Verdict, accepted, orGo, walk}
+use Rattle.rules.specs.Check.{orElse, Box, Held, anyBox, afterBox, Verdict, accepted, orGo, walk}
 use Rattle.rules.specs.declared.Finding.the-variants as Finding
 use Rattle.rules.specs.Verdict.{found}
 pub use Rattle.rules.specs.declared.kinds.Sorted.{Sorted}
@@ -37,10 +37,10 @@ pub use Rattle.rules.specs.declared.briefs.Form.{Form}
 pub use Rattle.rules.specs.declared.briefs.Form.the-variants as Form
 pub use Rattle.rules.specs.declared.briefs.Brief.{Brief}
 pub use Rattle.rules.specs.declared.written.Around.{Around}
-pub use Rattle.rules.specs.declared.written.Held.{Held}
 pub use Rattle.rules.specs.declared.refusals.Tests.{Tests}
 pub use Rattle.rules.specs.declared.boxes.Walk.{Walk}
 pub use Rattle.rules.specs.declared.boxes.Out.{Out}
+use Rattle.rules.specs.declared.written.Held as coded
 
 -- ---- kinds: the set of the whole ones and that of the floats
 
@@ -70,8 +70,8 @@ isFloat (Known.Of Kind.Real) = true
 abbrev pub learnt : Kinds → ℕ → Known → Kinds
 learnt k n j = set k n (orElse (kindAt k n) j)
 
-abbrev pub wrongBoth : (ℕ → Known) → List Want → List Give → Bool
-wrongBoth kind ws gs = wrong kind ws || wrongGive kind gs
+abbrev pub wrongBoth : (ℕ → Known) → List Read → List Write → Bool
+wrongBoth kind ws gs = wrong kind ws || wrongWrite kind gs
 
 -- ---- an item in brief
 
@@ -98,17 +98,17 @@ abbrev pub formBy : Bool → Item → Form
 formBy wrongs x = cond wrongs Form.Wrong (plainForm x)
 
 abbrev pub formOf : Kinds → Item → Form
-formOf k x = formBy (wrongBoth (kindAt k) (uses x) (gives x)) x
+formOf k x = formBy (wrongBoth (kindAt k) (readsOf x) (writesOf x)) x
 
 pub record Briefs (k : Kinds) (x : Item) (b : Brief) : Type 0 where
-  pub reads : namesOf (b .reads) ≡ asks nothing (uses x)
-  pub writes : namesOf (b .writes) ≡ put nothing (gives x)
+  pub reads : namesOf (b .reads) ≡ asks nothing (readsOf x)
+  pub writes : namesOf (b .writes) ≡ put nothing (writesOf x)
   pub form : b .form ≡ formOf k x
 
 -- what the walk takes from an item's brief: what it reads is missing, what it writes is put
 pub record Noted (k : Kinds) (x : Item) (reads writes : ℕ) (f : Form) : Type 0 where
-  pub missed : (s : ℕ) → outside (namesOf reads) (namesOf s) ≡ missing (has (namesOf s)) (uses x)
-  pub adds : (s : ℕ) → either (namesOf s) (namesOf writes) ≡ put (namesOf s) (gives x)
+  pub missed : (s : ℕ) → outside (namesOf reads) (namesOf s) ≡ missing (has (namesOf s)) (readsOf x)
+  pub adds : (s : ℕ) → either (namesOf s) (namesOf writes) ≡ put (namesOf s) (writesOf x)
   pub form : f ≡ formOf k x
 
 -- the briefs of a row of items, in three rows
@@ -132,10 +132,10 @@ pub record Told (k : Kinds) (xs : List Item) (t : Notes) : Type 0 where
   pub past : (i : ℕ) → t .count ≤ i → drop i xs ≡ []
 
 -- every name that an item reads is one of the 32
-pub record Reached (t : Script) : Type 0 where
+pub record Reached (t : Table) : Type 0 where
   pub items : t .count ≤ 128
   pub names : t .names ≤ 32
-  pub each : (i : ℕ) → i < t .count → wantsOk (t .names) (uses (slotAt t i .item)) ≡ true
+  pub each : (i : ℕ) → i < t .count → readsOk (t .names) (readsOf (slotAt t i .item)) ≡ true
 
 -- ---- the forms
 
@@ -227,7 +227,7 @@ pub record Holds : Type 0 where
   pub packed : Bool
   pub tagged : Bool
 
-abbrev pub holdsOf : Held → Holds
+abbrev pub holdsOf : coded.Held → Holds
 holdsOf h = record {
   sure = namesOf (h .sure);
   everyEnd = namesOf (h .«every_end»);
@@ -244,7 +244,7 @@ abbrev pub boxesIn : ℕ → Box → List Box → List Box
 boxesIn zero b bs = []
 boxesIn (suc n) b bs = b ∷ bs
 
-abbrev pub stateOf : Around → Holds → List Box → State
+abbrev pub stateOf : Around → Holds → List Box → Held
 stateOf a h bs =
     record { sure = h .sure; boxes = boxesIn (a .depth) (boxOf a h) bs; packed = h .packed; tagged = h .tagged }
 
@@ -261,7 +261,7 @@ pub record Outside (a : Around) : Type 0 where
   pub looped : a .looped ≡ false
   pub swept : a .swept ≡ false
 
-pub record Starts (h : Held) : Type 0 where
+pub record Starts (h : coded.Held) : Type 0 where
   pub sure : namesOf (h .sure) ≡ nothing
   pub packed : h .packed ≡ false
   pub tagged : h .tagged ≡ false
@@ -371,13 +371,13 @@ moved a h writes Form.Tag = record {
 }
 
 -- the state after it: its own box is left behind by a closing mark
-abbrev pub stateAfter : Bool → Around → Holds → List Box → State
+abbrev pub stateAfter : Bool → Around → Holds → List Box → Held
 stateAfter true a h bs = record { sure = h .sure; boxes = bs; packed = h .packed; tagged = h .tagged }
 stateAfter false a h bs = stateOf a h bs
 
 -- ---- in a box that an item opens
 
-pub record Deeper (a : Around) (h : Held) (f : Form) (r : Around) : Type 0 where
+pub record Deeper (a : Around) (h : coded.Held) (f : Form) (r : Around) : Type 0 where
   pub depth : r .depth ≡ suc (a .depth)
   pub sort : r .sort ≡ sortIn f
   pub before : r .before ≡ h .sure
@@ -395,24 +395,24 @@ entered h writes = record {
 
 -- ---- the way
 
-unfoldable pub restOf : Kinds → List Item → ℕ → State → Verdict
+unfoldable pub restOf : Kinds → List Item → ℕ → Held → Verdict
 restOf k xs i s = walk k i s (drop i xs)
 
 -- where nothing is found, what is left to come
-unfoldable pub comeTo : Kinds → List Item → Walk → State → Verdict
+unfoldable pub comeTo : Kinds → List Item → Walk → Held → Verdict
 comeTo k xs r s = orGo (found (r .finding)) (r .at) (restOf k xs (r .at) s)
 
-unfoldable pub comeOut : Kinds → List Item → Out → State → Verdict
+unfoldable pub comeOut : Kinds → List Item → Out → Held → Verdict
 comeOut k xs r s = orGo (found (r .finding)) (r .at) (restOf k xs (r .at) s)
 
 -- where nothing is left to come
 abbrev pub outcome : Out → Verdict
 outcome r = orGo (found (r .finding)) (r .at) accepted
 
-abbrev pub outState : Out → List Box → State
+abbrev pub outState : Out → List Box → Held
 outState r bs = record { sure = namesOf (r .sure); boxes = bs; packed = r .packed; tagged = r .tagged }
 
-abbrev pub backBy : Out → Held → Walk
+abbrev pub backBy : Out → coded.Held → Walk
 backBy r h = record {
   at = r .at;
   finding = r .finding;
@@ -437,7 +437,7 @@ leftBy r = record {
 
 -- from item i of a row the block checker has come out of the row: of whatever items these are the notes, and whatever
 -- is around, the verdict is the same
-pub record Went (t : Notes) (i : ℕ) (a : Around) (h : Held) (r : Out) : Type 0 where
+pub record Went (t : Notes) (i : ℕ) (a : Around) (h : coded.Held) (r : Out) : Type 0 where
   pub same : (k : Kinds) (xs : List Item) → Told k xs t → (bs : List Box) → Boxed a bs
       → comeOut k xs r (outState r bs) ≡ restOf k xs i (stateOf a (holdsOf h) bs)
   pub within : r .at ≤ t .count
@@ -446,7 +446,7 @@ pub record Went (t : Notes) (i : ℕ) (a : Around) (h : Held) (r : Out) : Type 0
       → r .finding ≡ Finding.Nothing → restOf k xs (r .at) (outState r bs) ≡ accepted
 
 -- the item checker has passed item i, and the box that it opens
-pub record Took (t : Notes) (i : ℕ) (a : Around) (h : Held) (r : Walk) : Type 0 where
+pub record Took (t : Notes) (i : ℕ) (a : Around) (h : coded.Held) (r : Walk) : Type 0 where
   pub same : (k : Kinds) (xs : List Item) → Told k xs t → (bs : List Box) → Boxed a bs
       → comeTo k xs r (stateAfter (r .closed) a (holdsOf (r .held)) bs) ≡ restOf k xs i (stateOf a (holdsOf h) bs)
   pub within : r .at ≤ t .count

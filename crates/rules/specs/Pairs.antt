@@ -16,7 +16,7 @@ use Rattle.table.specs.declared.Condition.{Condition}
 use Rattle.table.specs.declared.Item.{Item}
 use Rattle.table.specs.declared.Item.the-variants as Item
 use Rattle.table.specs.declared.Slot.{Slot}
-use Rattle.table.specs.declared.Script.{Script}
+use Rattle.table.specs.declared.Table.{Table}
 use Rattle.table.specs.declared.Act.the-variants as Act
 use Rattle.table.specs.declared.Pack.the-variants as Pack
 use Rattle.table.specs.declared.Head.the-variants as Head
@@ -29,7 +29,7 @@ abbrev slots : ℕ → List Item → List Slot
 slots n [] = []
 slots n (x ∷ xs) = record { item = x; line = n } ∷ slots (suc n) xs
 
-abbrev pub scriptOf : List Item → Script
+abbrev pub scriptOf : List Item → Table
 scriptOf xs = record {
   items = slots 1 xs ++ replicate (128 - length xs) noSlot;
   count = length xs;

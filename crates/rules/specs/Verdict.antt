@@ -1,23 +1,23 @@
 -- What the code's answers mean: 01's numbers, and the verdict with its place.
 use Prim.Native.Nat.{ℕ}
 use Rattle.rules.specs.Check.{Verdict, accepted, refused}
-use Rattle.rules.specs.declared.Rule.{Rule}
-use Rattle.rules.specs.declared.Rule.the-variants as Rule
+use Rattle.rules.specs.declared.Refusal.{Refusal}
+use Rattle.rules.specs.declared.Refusal.the-variants as Refusal
 use Rattle.rules.specs.declared.Finding.{Finding}
 use Rattle.rules.specs.declared.Finding.the-variants as Finding
 use Rattle.rules.specs.declared.Verdict.{Verdict as Answer}
 use Rattle.rules.specs.declared.Verdict.the-variants as Answer
 
-abbrev pub numberOf : Rule → ℕ
-numberOf Rule.Kinds = 19
-numberOf Rule.Unwritten = 20
-numberOf Rule.Mark = 21
-numberOf Rule.Ninth = 22
-numberOf Rule.Package = 23
-numberOf Rule.Tag = 24
-numberOf Rule.SameName = 25
-numberOf Rule.Nested = 26
-numberOf Rule.Shape = 30
+abbrev pub numberOf : Refusal → ℕ
+numberOf Refusal.Kinds = 19
+numberOf Refusal.Unwritten = 20
+numberOf Refusal.Mark = 21
+numberOf Refusal.Ninth = 22
+numberOf Refusal.Package = 23
+numberOf Refusal.Tag = 24
+numberOf Refusal.SameName = 25
+numberOf Refusal.Nested = 26
+numberOf Refusal.Shape = 30
 
 -- 0: no rule is broken
 abbrev pub found : Finding → ℕ

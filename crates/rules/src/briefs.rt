@@ -104,12 +104,12 @@ fn form_by(wrong: bool, item: Item) -> Form
 pub(crate) fn brief_of(kinds: Sorted, item: Item) -> Brief
     ensures { λ r. ⌜ Briefs (kindsIn kinds) item r ⌝ }
 {
-    let wants = table::reads(item);
-    let gives = table::writes(item);
-    let form = form_by(kinds::wrong_kinds(kinds, wants, gives), item);
+    let reads = table::reads_of(item);
+    let writes = table::writes_of(item);
+    let form = form_by(kinds::wrong_kinds(kinds, reads, writes), item);
     Brief {
-        reads: sets::with_read(sets::none(), wants),
-        writes: sets::with_written(sets::none(), gives),
+        reads: sets::with_read(sets::none(), reads),
+        writes: sets::with_written(sets::none(), writes),
         form: form,
     }
 }

@@ -3,19 +3,19 @@ ghost use mathlib.Core.Path.{_≡_};
 ghost use mathlib.Core.List.{[], _∷_};
 ghost use Prim.Native.Nat.{_≤_};
 ghost use lib.ListN.{replicate};
-ghost use Rattle.table.specs.Uses.{kindOf, kindAt, kindIn, differ, wrong, wrongGive};
-ghost use Rattle.table.specs.Code.{allWants, allGives};
+ghost use Rattle.table.specs.ReadWrite.{kindOf, kindAt, kindIn, differ, wrong, wrongWrite};
+ghost use Rattle.table.specs.Code.{allReads, allWrites};
 ghost use Rattle.table.specs.Shape.{itemsOf};
 ghost use Rattle.rules.specs.Check.{isKnown, learn, kindsOf};
 ghost use Rattle.rules.specs.Code.{kindsIn, isWhole, isFloat, learnt, wrongBoth};
-use table::Give;
-use table::Gives;
 use table::Kind;
 use table::Known;
 use table::Operand;
-use table::Script;
-use table::Want;
-use table::Wants;
+use table::Read;
+use table::Reads;
+use table::Table;
+use table::Write;
+use table::Writes;
 use value::Value;
 
 // The whole ones among the names, and the floats.
@@ -114,32 +114,32 @@ fn learn_like(kinds: Sorted, n: usize, x: Operand) -> Sorted
     kinds
 }
 
-fn learn_written(kinds: Sorted, gives: Gives) -> Sorted
-    ensures { λ r. ⌜ kindsIn r ≡ learn (kindsIn kinds) (allGives gives) ⌝ }
+fn learn_written(kinds: Sorted, writes: Writes) -> Sorted
+    ensures { λ r. ⌜ kindsIn r ≡ learn (kindsIn kinds) (allWrites writes) ⌝ }
 {
-    match gives {
-        Gives::Nothing => kinds,
-        Gives::One(g) => match g {
-            Give::Like(n, x) => learn_like(kinds, n, x),
-            Give::Float(n) => learn_float(kinds, n),
+    match writes {
+        Writes::Nothing => kinds,
+        Writes::One(g) => match g {
+            Write::Like(n, x) => learn_like(kinds, n, x),
+            Write::Float(n) => learn_float(kinds, n),
         },
-        Gives::TwoFloats(a, b) => learn_float(learn_float(kinds, a), b),
+        Writes::TwoFloats(a, b) => learn_float(learn_float(kinds, a), b),
     }
 }
 
 // Arithmetic and a copy whose source has no kind write a name with a kind that is its own already or that nobody knows,
 // so they teach nothing.
-pub(crate) fn kinds_of(script: Script) -> Sorted
-    requires { ⌜ script .count ≤ 128 ⌝ }
-    ensures { λ r. ⌜ kindsIn r ≡ kindsOf (replicate 32 Known.Unknown) (itemsOf script) ⌝ }
+pub(crate) fn kinds_of(table: Table) -> Sorted
+    requires { ⌜ table .count ≤ 128 ⌝ }
+    ensures { λ r. ⌜ kindsIn r ≡ kindsOf (replicate 32 Known.Unknown) (itemsOf table) ⌝ }
 {
     let mut kinds = no_kinds();
-    let count = script.count;
+    let count = table.count;
     let mut i: usize = 0;
     while i < count {
-        let slot = script.items[i];
+        let slot = table.items[i];
         let item = slot.item;
-        let next = learn_written(kinds, table::writes(item));
+        let next = learn_written(kinds, table::writes_of(item));
         kinds = next;
         i += 1;
     }
@@ -161,51 +161,51 @@ fn no_float(kinds: Sorted, x: Operand) -> bool
     is_whole(kinds, x)
 }
 
-fn one_wrong(kinds: Sorted, want: Want) -> bool
-    ensures { λ r. ⌜ r ≡ wrong (kindAt (kindsIn kinds)) (want ∷ []) ⌝ }
+fn one_wrong(kinds: Sorted, read: Read) -> bool
+    ensures { λ r. ⌜ r ≡ wrong (kindAt (kindsIn kinds)) (read ∷ []) ⌝ }
 {
-    match want {
-        Want::Any(_) => false,
-        Want::Alike(x, y) => unlike(kinds, x, y),
-        Want::Float(x) => no_float(kinds, x),
+    match read {
+        Read::Any(_) => false,
+        Read::Alike(x, y) => unlike(kinds, x, y),
+        Read::Float(x) => no_float(kinds, x),
     }
 }
 
-fn any_wrong(kinds: Sorted, wants: Wants) -> bool
-    ensures { λ r. ⌜ r ≡ wrong (kindAt (kindsIn kinds)) (allWants wants) ⌝ }
+fn any_wrong(kinds: Sorted, reads: Reads) -> bool
+    ensures { λ r. ⌜ r ≡ wrong (kindAt (kindsIn kinds)) (allReads reads) ⌝ }
 {
-    match wants {
-        Wants::Nothing => false,
-        Wants::One(w) => one_wrong(kinds, w),
-        Wants::FourFloats(a, b, c, d) => {
+    match reads {
+        Reads::Nothing => false,
+        Reads::One(w) => one_wrong(kinds, w),
+        Reads::FourFloats(a, b, c, d) => {
             no_float(kinds, d) | no_float(kinds, c) | no_float(kinds, b) | no_float(kinds, a)
         }
     }
 }
 
-fn one_wrong_give(kinds: Sorted, give: Give) -> bool
-    ensures { λ r. ⌜ r ≡ wrongGive (kindAt (kindsIn kinds)) (give ∷ []) ⌝ }
+fn one_wrong_write(kinds: Sorted, write: Write) -> bool
+    ensures { λ r. ⌜ r ≡ wrongWrite (kindAt (kindsIn kinds)) (write ∷ []) ⌝ }
 {
-    match give {
-        Give::Like(n, x) => unlike(kinds, Operand::Name(n), x),
-        Give::Float(n) => no_float(kinds, Operand::Name(n)),
+    match write {
+        Write::Like(n, x) => unlike(kinds, Operand::Name(n), x),
+        Write::Float(n) => no_float(kinds, Operand::Name(n)),
     }
 }
 
-fn any_wrong_give(kinds: Sorted, gives: Gives) -> bool
-    ensures { λ r. ⌜ r ≡ wrongGive (kindAt (kindsIn kinds)) (allGives gives) ⌝ }
+fn any_wrong_write(kinds: Sorted, writes: Writes) -> bool
+    ensures { λ r. ⌜ r ≡ wrongWrite (kindAt (kindsIn kinds)) (allWrites writes) ⌝ }
 {
-    match gives {
-        Gives::Nothing => false,
-        Gives::One(g) => one_wrong_give(kinds, g),
-        Gives::TwoFloats(a, b) => {
+    match writes {
+        Writes::Nothing => false,
+        Writes::One(g) => one_wrong_write(kinds, g),
+        Writes::TwoFloats(a, b) => {
             no_float(kinds, Operand::Name(b)) | no_float(kinds, Operand::Name(a))
         }
     }
 }
 
-pub(crate) fn wrong_kinds(kinds: Sorted, wants: Wants, gives: Gives) -> bool
-    ensures { λ r. ⌜ r ≡ wrongBoth (kindAt (kindsIn kinds)) (allWants wants) (allGives gives) ⌝ }
+pub(crate) fn wrong_kinds(kinds: Sorted, reads: Reads, writes: Writes) -> bool
+    ensures { λ r. ⌜ r ≡ wrongBoth (kindAt (kindsIn kinds)) (allReads reads) (allWrites writes) ⌝ }
 {
-    any_wrong(kinds, wants) | any_wrong_give(kinds, gives)
+    any_wrong(kinds, reads) | any_wrong_write(kinds, writes)
 }

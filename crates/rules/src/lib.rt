@@ -8,7 +8,7 @@ ghost use Rattle.rules.specs.Verdict.{numberOf, meaning};
 use boxes::Out;
 use briefs::Form;
 use kinds::Sorted;
-use table::Script;
+use table::Table;
 
 mod boxes;
 mod briefs;
@@ -19,7 +19,7 @@ mod written;
 const ITEMS: usize = 128;
 
 // What a refusal says is broken: 19 to 26, and 30 for the table's shape.
-pub enum Rule {
+pub enum Refusal {
     Kinds,
     Unwritten,
     Mark,
@@ -33,45 +33,45 @@ pub enum Rule {
 
 pub enum Finding {
     Nothing,
-    Broken(Rule),
+    Broken(Refusal),
 }
 
 // The second number is the line.
 pub enum Verdict {
     Accepted,
-    Refused(Rule, usize),
+    Refused(Refusal, usize),
 }
 
 // 01's number of a refusal.
-pub fn number(rule: Rule) -> u8
-    ensures { λ r. ⌜ r ≡ numberOf rule ⌝ }
+pub fn number(refusal: Refusal) -> u8
+    ensures { λ r. ⌜ r ≡ numberOf refusal ⌝ }
 {
-    match rule {
-        Rule::Kinds => 19,
-        Rule::Unwritten => 20,
-        Rule::Mark => 21,
-        Rule::Ninth => 22,
-        Rule::Package => 23,
-        Rule::Tag => 24,
-        Rule::SameName => 25,
-        Rule::Nested => 26,
-        Rule::Shape => 30,
+    match refusal {
+        Refusal::Kinds => 19,
+        Refusal::Unwritten => 20,
+        Refusal::Mark => 21,
+        Refusal::Ninth => 22,
+        Refusal::Package => 23,
+        Refusal::Tag => 24,
+        Refusal::SameName => 25,
+        Refusal::Nested => 26,
+        Refusal::Shape => 30,
     }
 }
 
 // The script is a row of items that no box is around. The table is read in place, and the walk gets what it has to know
 // of each item: handed to a function by value the table would be copied whole.
-fn check_row(script: Script, kinds: Sorted) -> Out
-    requires { ⌜ Reached script ⌝ }
-    ensures { λ r. ⌜ outcome r ≡ walk (kindsIn kinds) 0 begin (itemsOf script) ⌝ }
+fn check_row(table: Table, kinds: Sorted) -> Out
+    requires { ⌜ Reached table ⌝ }
+    ensures { λ r. ⌜ outcome r ≡ walk (kindsIn kinds) 0 begin (itemsOf table) ⌝ }
 {
     let mut reads: [u32; ITEMS] = [0; ITEMS];
     let mut writes: [u32; ITEMS] = [0; ITEMS];
     let mut forms = [Form::Act; ITEMS];
-    let count = script.count;
+    let count = table.count;
     let mut i: usize = 0;
     while i < count {
-        let slot = script.items[i];
+        let slot = table.items[i];
         let item = slot.item;
         let brief = briefs::brief_of(kinds, item);
         let form = brief.form;
@@ -92,31 +92,31 @@ fn check_row(script: Script, kinds: Sorted) -> Out
 }
 
 // The line of an item, or the ending line.
-fn line_of(script: Script, at: usize) -> usize
-    ensures { λ r. ⌜ r ≡ lineOf script at ⌝ }
+fn line_of(table: Table, at: usize) -> usize
+    ensures { λ r. ⌜ r ≡ lineOf table at ⌝ }
 {
-    let count = script.count;
-    let end = script.end;
+    let count = table.count;
+    let end = table.end;
     if at < count {
-        let slot = table::slot_at(script, at);
+        let slot = table::slot_at(table, at);
         return slot.line;
     }
     end
 }
 
 // The verdict on any table, beside its script's bytes.
-pub fn check(text: &[u8], script: Script) -> Verdict
-    ensures { λ r. ⌜ meaning r ≡ verdict (length (now (text .entry))) script ⌝ }
+pub fn check(text: &[u8], table: Table) -> Verdict
+    ensures { λ r. ⌜ meaning r ≡ verdict (length (now (text .entry))) table ⌝ }
 {
-    if !table::in_shape(text, script) {
-        return Verdict::Refused(Rule::Shape, 0);
+    if !table::in_shape(text, table) {
+        return Verdict::Refused(Refusal::Shape, 0);
     }
-    let kinds = kinds::kinds_of(script);
-    let r = check_row(script, kinds);
+    let kinds = kinds::kinds_of(table);
+    let r = check_row(table, kinds);
     let finding = r.finding;
     let at = r.at;
     match finding {
         Finding::Nothing => Verdict::Accepted,
-        Finding::Broken(rule) => Verdict::Refused(rule, line_of(script, at)),
+        Finding::Broken(refusal) => Verdict::Refused(refusal, line_of(table, at)),
     }
 }

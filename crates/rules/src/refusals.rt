@@ -3,13 +3,13 @@ ghost use mathlib.Core.Path.{_≡_};
 ghost use mathlib.Core.Bool.{not, _&&_, _||_};
 ghost use lib.Dec.{leb, eqb};
 ghost use Rattle.table.specs.Item.{isSweep};
-ghost use Rattle.table.specs.Uses.{lowest};
+ghost use Rattle.table.specs.ReadWrite.{lowest};
 ghost use Rattle.sets.specs.Names.{outside, namesOf};
 ghost use Rattle.rules.specs.Code.{isWrong, isBranch, isOpen, isTag, isTwice, sortIn, inIf, inLoop};
 ghost use Rattle.rules.specs.Code.{holdsOf, baseIn, markIn, orderIn, rowsIn, rowsAtEnd, rowsOf};
 ghost use Rattle.rules.specs.Verdict.{found};
 use super::Finding;
-use super::Rule;
+use super::Refusal;
 use super::briefs::Form;
 use super::briefs::Step;
 use super::written;
@@ -222,28 +222,28 @@ fn lowest(tests: Tests) -> Finding
     ensures { λ r. ⌜ found r ≡ lowest (rowsOf tests) ⌝ }
 {
     if tests.kinds {
-        return Finding::Broken(Rule::Kinds);
+        return Finding::Broken(Refusal::Kinds);
     }
     if tests.unwritten {
-        return Finding::Broken(Rule::Unwritten);
+        return Finding::Broken(Refusal::Unwritten);
     }
     if tests.mark {
-        return Finding::Broken(Rule::Mark);
+        return Finding::Broken(Refusal::Mark);
     }
     if tests.ninth {
-        return Finding::Broken(Rule::Ninth);
+        return Finding::Broken(Refusal::Ninth);
     }
     if tests.order {
-        return Finding::Broken(Rule::Package);
+        return Finding::Broken(Refusal::Package);
     }
     if tests.tag {
-        return Finding::Broken(Rule::Tag);
+        return Finding::Broken(Refusal::Tag);
     }
     if tests.twice {
-        return Finding::Broken(Rule::SameName);
+        return Finding::Broken(Refusal::SameName);
     }
     if tests.nested {
-        return Finding::Broken(Rule::Nested);
+        return Finding::Broken(Refusal::Nested);
     }
     Finding::Nothing
 }
@@ -259,10 +259,10 @@ pub(crate) fn judge_end(depth: usize, packed: bool) -> Finding
     ensures { λ r. ⌜ found r ≡ lowest (rowsAtEnd depth packed) ⌝ }
 {
     if depth != 0 {
-        return Finding::Broken(Rule::Mark);
+        return Finding::Broken(Refusal::Mark);
     }
     if packed {
-        return Finding::Broken(Rule::Package);
+        return Finding::Broken(Refusal::Package);
     }
     Finding::Nothing
 }

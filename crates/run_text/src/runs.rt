@@ -88,9 +88,9 @@ fn boxes_at(s: &[u8], at: usize) -> Opened {
 
 // What a name holds, a value and its type.
 fn var_at(s: &[u8], at: usize) -> Var {
-    let kind = behind(s, at, b':');
+    let letters = behind(s, at, b':');
     Var {
-        cell: Cell::Holds(value(s, at), hex4(s, kind)),
+        cell: Cell::Holds(value(s, at), hex4(s, letters)),
     }
 }
 
@@ -313,13 +313,13 @@ fn put_var(out: &mut [u8], at: usize, start: usize, name: usize, var: Var) -> us
     let cell = var.cell;
     match cell {
         Cell::Unwritten => at,
-        Cell::Holds(value, kind) => {
+        Cell::Holds(value, letters) => {
             let at = put_comma(out, at, start);
             let at = put_number(out, at, name);
             let at = put(out, at, b":");
             let at = put_value(out, at, value);
             let at = put(out, at, b":");
-            put_hex4(out, at, kind)
+            put_hex4(out, at, letters)
         }
     }
 }

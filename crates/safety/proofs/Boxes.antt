@@ -14,7 +14,7 @@ use Rattle.table.specs.declared.Close.{Close}
 use Rattle.table.specs.declared.Item.{Item}
 use Rattle.table.specs.declared.Item.the-variants as Item
 use Rattle.table.specs.Item.{sortOf, isOpen, isClose, fits}
-use Rattle.table.specs.Uses.{Kinds, Names}
+use Rattle.table.specs.ReadWrite.{Kinds, Names}
 use Rattle.mates.specs.declared.Open.{Open}
 use Rattle.mates.specs.Mates.{scan, scanAll, boxesAt, belongs, closeFrom, closeOf}
 use Rattle.rules.specs.Check.{misplaced}

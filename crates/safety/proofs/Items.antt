@@ -31,10 +31,10 @@ use Rattle.state.specs.declared.LoopSort.{LoopSort}
 use Rattle.state.specs.declared.LoopSort.the-variants as LoopSort
 use Rattle.table.specs.declared.Kind.the-variants as Kind
 use Rattle.table.specs.declared.Known.the-variants as Known
-use Rattle.table.specs.declared.Give.the-variants as Give
+use Rattle.table.specs.declared.Write.the-variants as Write
 use Rattle.table.specs.Item.{sortOf, isLoop, isSweep, opensA}
-use Rattle.table.specs.Uses.{actGives, headGives, kindOf, differ, Kinds, kindAt, wrongGive, Names, has, gone}
-use Rattle.table.specs.Shape.{givesOk}
+use Rattle.table.specs.ReadWrite.{actWrites, headWrites, kindOf, differ, Kinds, kindAt, wrongWrite, Names, has, gone}
+use Rattle.table.specs.Shape.{writesOk}
 use Rattle.mates.specs.Mates.{itemAt}
 use Rattle.rules.proofs.Placed.{Box}
 use Rattle.sets.specs.Names.{put}
@@ -43,13 +43,14 @@ use Rattle.state.specs.declared.Cell.the-variants as Cell
 use Rattle.state.specs.declared.Offer.{Offer}
 use Rattle.state.specs.declared.Offer.the-variants as Offer
 use Rattle.state.specs.State.{Vars, cellAt, isWritten, cellKind, cellValue, cellType, valueOf, holds, da, ba, eb}
-use Rattle.state.specs.State.{code0028, code0010, Run, leaves, Answer, running, waiting, finished, stopped, fault}
+use Rattle.state.specs.State.{code0028, code0010, State, leaves, Answer, running, waiting, finished, stopped, fault}
 use Rattle.state.specs.State.{refuse, Step, goto, keep, unskip, said, stopsBy, reading, cellOk}
-use Rattle.machine.specs.Machine.{unwind, outside, next, kept, runAct, runPack, Chosen, otherwise, chosen, enter, leave}
-use Rattle.machine.specs.Machine.{runPoint, runHead, runBranch, runClose, runBreak, run}
+use Rattle.steps.specs.Machine.{unwind, outside, next, kept, runAct, runPack, Chosen, otherwise, chosen, enter}
+use Rattle.steps.specs.Machine.{leave}
+use Rattle.steps.specs.Machine.{runPoint, runHead, runBranch, runClose, runBreak, run}
 use Rattle.safety.specs.Safety.{isCode}
 use Rattle.safety.proofs.Laws.{no, or-l, or-r, and-l, and-r, both-r, not-nothing}
-use Rattle.safety.proofs.Walk.{textKinds, Accepted, more, closes-fits, branch-fits, clean, item-ok, gives-ok}
+use Rattle.safety.proofs.Walk.{textKinds, Accepted, more, closes-fits, branch-fits, clean, item-ok, writes-ok}
 use Rattle.safety.proofs.Walk.{like-below, float-below}
 use Rattle.safety.proofs.Boxes.{erase, Headed}
 use Rattle.safety.proofs.Static.{static}
@@ -68,7 +69,7 @@ cover-under vs (there u) h = cover-under vs u (h .1)
 
 module _ {names size : ℕ} {items : List Item} (ok : Accepted names size items) where
   -- what running an item can answer, and what it leaves
-  abbrev pub Fine : Answer → Run → Type 0
+  abbrev pub Fine : Answer → State → Type 0
   Fine running m = Good ok m
   Fine waiting m = ⊥
   Fine finished m = Good ok m
@@ -79,14 +80,14 @@ module _ {names size : ℕ} {items : List Item} (ok : Accepted names size items)
   abbrev pub FineStep : Step → Type 0
   FineStep s = Fine (s .answer) (s .next)
 
-  module _ {m : Run} {su : Names} {l : List Box} {p tg : Bool} {k : Kinds} where
+  module _ {m : State} {su : Names} {l : List Box} {p tg : Bool} {k : Kinds} where
     stops : {xs : List Item} → Here ok m su l p tg k xs → (c : ℕ) → isCode c ≡ true → FineStep (stopsBy c m)
     stops h c e = (e, record { shape = shape-of ok h; life = e })
 
     -- ---- items that open no box
 
     module _ (a : Act) {xs : List Item} (h : Here ok m su l p tg k (Item.Act a ∷ xs)) where
-      wrote : (v : ℕ) (w : Cell) → put su (actGives a) ≡ set su v true → v < 32
+      wrote : (v : ℕ) (w : Cell) → put su (actWrites a) ≡ set su v true → v < 32
           → isWritten w ≡ true → cellOk w ≡ true → differ (kindAt (textKinds items) v) (cellKind w) ≡ false
           → Good ok (next (keep m (set (m .vars) v w)))
       wrote v w q u e f d =
@@ -94,7 +95,7 @@ module _ {names size : ℕ} {items : List Item} (ok : Accepted names size items)
           (rw q (cover-set (m .vars) v w su (h .vars .len) u e (h .cover)))
           (all-cover-up (m .vars) v w l e (h .covers)) (set-vars (m .vars) v w (h .vars) f d) (h .living)
 
-      kept-fine : (v c : ℕ) (g : Calculated) → put su (actGives a) ≡ set su v true → v < 32
+      kept-fine : (v c : ℕ) (g : Calculated) → put su (actWrites a) ≡ set su v true → v < 32
           → ((u : Value) → g ≡ Calculated.Value u
           → (finite u ≡ true) × (differ (kindAt (textKinds items) v) (Known.Of (kindOf u)) ≡ false))
           → FineStep (kept m v c g)
@@ -102,17 +103,17 @@ module _ {names size : ℕ} {items : List Item} (ok : Accepted names size items)
       kept-fine v c Calculated.ByZero q b f = stops h code0028 refl
       kept-fine v c Calculated.NotFinite q b f = stops h code0010 refl
 
-      float-fine : (v c : ℕ) (x : Float) → put su (actGives a) ≡ set su v true → v < 32
+      float-fine : (v c : ℕ) (x : Float) → put su (actWrites a) ≡ set su v true → v < 32
           → differ (kindAt (textKinds items) v) (Known.Of Kind.Real) ≡ false → FineStep (kept m v c (checked x))
       float-fine v c x q b d = kept-fine v c (checked x) q b (λ u e. let r = checked-got x u e in (r .0, rw (r .1) d))
 
-      stays : put su (actGives a) ≡ su → Good ok (next m)
+      stays : put su (actWrites a) ≡ su → Good ok (next m)
       stays q =
           land ok (more (h .reach)) (inl (not-again ok h refl)) (h .packed) (rw q (h .cover)) (h .covers) (h .vars)
           (h .living)
 
-      written-ok : givesOk names (actGives a) ≡ true
-      written-ok = gives-ok ok (Item.Act a) (item-ok ok (h .reach))
+      written-ok : writesOk names (actWrites a) ≡ true
+      written-ok = writes-ok ok (Item.Act a) (item-ok ok (h .reach))
 
     act-fine : (a : Act) {xs : List Item} (o : Offer) → Here ok m su l p tg k (Item.Act a ∷ xs)
         → FineStep (runAct m a o)
@@ -169,7 +170,7 @@ module _ {names size : ℕ} {items : List Item} (ok : Accepted names size items)
 
     -- a box is entered, with the names vs
     entered-fine : (d : Head) {xs : List Item} → Here ok m su l p tg k (Item.Open d ∷ xs) → (vs : Vars)
-        → VarsOk (textKinds items) vs → Covers (put su (headGives d)) vs → Covers su vs → AllCover l vs
+        → VarsOk (textKinds items) vs → Covers (put su (headWrites d)) vs → Covers su vs → AllCover l vs
         → (ps : List ℕ) → ps ≡ positions l → Good ok (goto (keep m vs) (suc (m .at)) (m .at ∷ ps))
     entered-fine d h vs v c e a ps q = land ok (more (h .reach)) (inl (rw q)) (h .packed) c (e, a) v (h .living)
 
@@ -215,10 +216,10 @@ module _ {names size : ℕ} {items : List Item} (ok : Accepted names size items)
         → FineStep (runPoint m w x y)
     point-fine w x y h = go (finite (Value.Real x)) (finite (Value.Real y)) refl refl
       where
-        g : givesOk names (Give.Float (w .potential) ∷ Give.Float (w .current) ∷ []) ≡ true
-        g = gives-ok ok (Item.Open (Head.Sweep w)) (item-ok ok (h .reach))
+        g : writesOk names (Write.Float (w .potential) ∷ Write.Float (w .current) ∷ []) ≡ true
+        g = writes-ok ok (Item.Open (Head.Sweep w)) (item-ok ok (h .reach))
 
-        d : wrongGive (kindAt (textKinds items)) (Give.Float (w .potential) ∷ Give.Float (w .current) ∷ []) ≡ false
+        d : wrongWrite (kindAt (textKinds items)) (Write.Float (w .potential) ∷ Write.Float (w .current) ∷ []) ≡ false
         d = (clean ok (h .reach)) .gifts
 
         w₁ : Cell
@@ -234,7 +235,7 @@ module _ {names size : ℕ} {items : List Item} (ok : Accepted names size items)
         v₂ = set v₁ (w .current) w₂
 
         b₁ : w .potential < 32
-        b₁ = float-below ok (w .potential) (Give.Float (w .current) ∷ []) g
+        b₁ = float-below ok (w .potential) (Write.Float (w .current) ∷ []) g
 
         b₂ : w .current < 32
         b₂ = float-below ok (w .current) [] (and-l (ltb (w .current) names) (ltb (w .potential) names) g)
@@ -279,7 +280,7 @@ module _ {names size : ℕ} {items : List Item} (ok : Accepted names size items)
 
   -- ---- branch and closing marks
 
-  module _ {m : Run} {su : Names} {p tg : Bool} {k : Kinds} where
+  module _ {m : State} {su : Names} {p tg : Bool} {k : Kinds} where
     branch-fine : (c : Branch) (l : List Box) {xs : List Item} → Here ok m su l p tg k (Item.Branch c ∷ xs)
         → FineStep (runBranch items m (m .boxes))
     branch-fine c [] h = no ((clean ok (h .reach)) .placed)
@@ -319,7 +320,7 @@ module _ {names size : ℕ} {items : List Item} (ok : Accepted names size items)
             land ok (g .reach) (inr (refl, rw (← g .sort) loops)) (h .packed ∙ (clean ok (h .reach)) .packed)
             (h .covers .0) (h .covers .1) (h .vars) (h .living)
 
-  pub run-fine : {m : Run} {su : Names} {l : List Box} {p tg : Bool} {k : Kinds} (x : Item) {xs : List Item}
+  pub run-fine : {m : State} {su : Names} {l : List Box} {p tg : Bool} {k : Kinds} (x : Item) {xs : List Item}
       (o : Offer) → Here ok m su l p tg k (x ∷ xs) → FineStep (run items m x o)
   run-fine (Item.Act a) o h = act-fine a o h
   run-fine (Item.Pack q) o h = pack-fine q h

@@ -7,9 +7,10 @@ use mathlib.Core.List.{List, []}
 use Rattle.table.specs.declared.Item.{Item}
 use Rattle.state.specs.declared.Control.{Control}
 use Rattle.state.specs.declared.Offer.{Offer}
-use Rattle.state.specs.State.{Status, live, finishedRun, stoppedRun, faultRun, Run, Answer, running, waiting, finished}
+use Rattle.state.specs.State.{Status, live, finishedRun, stoppedRun, faultRun, State, Answer, running, waiting}
+use Rattle.state.specs.State.{finished}
 use Rattle.state.specs.State.{stopped, fault, refuse, Step, fresh, Meets, ready, short, amiss}
-use Rattle.machine.specs.Machine.{served, told, moved, again}
+use Rattle.steps.specs.Machine.{served, told, moved, again}
 use Rattle.safety.specs.Safety.{isAmiss, wrongSort, allowed, unbroken, Promise}
 use Rattle.safety.proofs.Laws.{no′, not-nothing}
 use Rattle.safety.proofs.Walk.{textKinds, Accepted, outset}
@@ -33,7 +34,7 @@ lives (stoppedRun n) = false
 lives (faultRun n) = false
 
 module _ {names size : ℕ} {items : List Item} (ok : Accepted names size items) where
-  good-unbroken : {m : Run} → Good ok m → unbroken (m .status) ≡ true
+  good-unbroken : {m : State} → Good ok m → unbroken (m .status) ≡ true
   good-unbroken {m} g = go (m .status) (g .life)
     where
       go : (a : Status) → Life ok a m → unbroken a ≡ true
@@ -42,7 +43,7 @@ module _ {names size : ℕ} {items : List Item} (ok : Accepted names size items)
       go (stoppedRun c) i = i
       go (faultRun n) i = absurd i
 
-  module _ (m : Run) (c : Control) (o : Offer) where
+  module _ (m : State) (c : Control) (o : Offer) where
     -- the promise, and a run that the next step can start from
     abbrev pub Kept : Step → Type 0
     Kept s = Promise items m c o s × Good ok (s .next)

@@ -7,7 +7,7 @@ use mathlib.Core.List.{List, [], _∷_}
 use native.Mathlib.Omega.{arith}
 use lib.ListN.{getD, set, replicate}
 pub use Rattle.laws.proofs.Bools.{no, no′, or-l, or-r, or-f, and-l, and-r, and-t}
-use Rattle.table.specs.Uses.{Names, has}
+use Rattle.table.specs.ReadWrite.{Names, has}
 use Rattle.sets.specs.Names.{nothing, both}
 
 -- the first of a row of tests says false, and so do the others

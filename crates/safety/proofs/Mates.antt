@@ -17,16 +17,16 @@ use Rattle.table.specs.declared.Item.{Item}
 use Rattle.table.specs.declared.Item.the-variants as Item
 use Rattle.table.specs.declared.Sort.{Sort}
 use Rattle.table.specs.declared.Sort.the-variants as Sort
-use Rattle.table.specs.declared.Want.{Want}
+use Rattle.table.specs.declared.Read.{Read}
 use Rattle.table.specs.Item.{sortOf, isElse, isLoop, fits}
-use Rattle.table.specs.Uses.{conditionUses, Kinds, kindAt, wrong, Names, has, missing, lowest}
+use Rattle.table.specs.ReadWrite.{conditionReads, Kinds, kindAt, wrong, Names, has, missing, lowest}
 use Rattle.mates.specs.declared.Open.{Open}
 use Rattle.mates.specs.Mates.{belongs, closeFrom, closeOf, past}
 use Rattle.sets.specs.Names.{everything, both}
 use Rattle.rules.specs.Check.{isEmpty, afterBox}
 use Rattle.rules.proofs.Placed.{Box, plain, plains}
 use Rattle.state.specs.State.{Vars, holds}
-use Rattle.machine.specs.Machine.{readFaults, Chosen, into, beyond, choose}
+use Rattle.steps.specs.Machine.{readFaults, Chosen, into, beyond, choose}
 use Rattle.safety.proofs.Laws.{no, no′, or-r, Sub, both-l, both-r}
 use Rattle.safety.proofs.Walk.{textKinds, Accepted, state, Reach, more, closes-fits, clean, ends}
 use Rattle.safety.proofs.Boxes.{erase, Below}
@@ -199,7 +199,7 @@ module _ {names size : ℕ} {items : List Item} (ok : Accepted names size items)
 
   -- reads that the checker lets through, with su surely written, have no fault
   abbrev pub Readable : Names → Vars → Type 0
-  Readable su vs = (ws : List Want) → missing (has su) ws ≡ false → wrong (kindAt (textKinds items)) ws ≡ false
+  Readable su vs = (ws : List Read) → missing (has su) ws ≡ false → wrong (kindAt (textKinds items)) ws ≡ false
       → lowest (readFaults vs ws) ≡ 0
 
   -- a mark belongs to no box below the innermost
@@ -236,7 +236,7 @@ module _ {names size : ℕ} {items : List Item} (ok : Accepted names size items)
         → Picks items (b .at) (b .before) bs
         (cond h (into (suc i)) (choose vs (b .at) (suc i) (erase (b ∷ bs)) xs)) =
         λ h. elim h [ true ↦ goes (more r′) refl refl | false ↦ rest ] in
-        rw (f, eq-eqb (b .at) (b .at) refl, g (conditionUses c) (rw f at ((clean ok r) .there)) ((clean ok r) .kinds))
+        rw (f, eq-eqb (b .at) (b .at) refl, g (conditionReads c) (rw f at ((clean ok r) .there)) ((clean ok r) .kinds))
         (pick (holds vs c))
     choose-good (Item.Branch Branch.Else ∷ xs) {i} {su} {p = p} {tg = tg} {k = k} {b = b} {bs = bs} r here e f g =
         let r′ : Reach items i (state su (b ∷ bs) false tg) k (Item.Branch Branch.Else ∷ xs) =

@@ -14,9 +14,9 @@ use Rattle.table.specs.declared.Kind.{Kind}
 use Rattle.table.specs.declared.Kind.the-variants as Kind
 use Rattle.table.specs.declared.Known.{Known}
 use Rattle.table.specs.declared.Known.the-variants as Known
-use Rattle.table.specs.declared.Want.{Want}
-use Rattle.table.specs.declared.Want.the-variants as Want
-use Rattle.table.specs.Uses.{kindOf, alikeKind, differ, Kinds, kindAt, kindIn, wrong, Names, has, gone, missing}
+use Rattle.table.specs.declared.Read.{Read}
+use Rattle.table.specs.declared.Read.the-variants as Read
+use Rattle.table.specs.ReadWrite.{kindOf, alikeKind, differ, Kinds, kindAt, kindIn, wrong, Names, has, gone, missing}
 use Rattle.rules.specs.Check.{isKnown}
 use Rattle.rules.proofs.Placed.{Box}
 use Rattle.state.specs.declared.Cell.{Cell}
@@ -136,19 +136,19 @@ module _ {k : Kinds} {su : Names} {vs : Vars} (a : Knows k su vs) where
   kind-in (Operand.Literal l) h = refl
 
   -- no name is missing that the checker was sure of
-  pub there-now : (ws : List Want) → missing (has su) ws ≡ false → missing (written vs) ws ≡ false
+  pub there-now : (ws : List Read) → missing (has su) ws ≡ false → missing (written vs) ws ≡ false
   there-now [] h = refl
-  there-now (Want.Any x ∷ ws) h = or-f (there-now ws (or-l _ _ h)) (here-now x (or-r (missing (has su) ws) _ h))
-  there-now (Want.Alike x y ∷ ws) h =
+  there-now (Read.Any x ∷ ws) h = or-f (there-now ws (or-l _ _ h)) (here-now x (or-r (missing (has su) ws) _ h))
+  there-now (Read.Alike x y ∷ ws) h =
       let b = or-r (missing (has su) ws) _ h in
       or-f (there-now ws (or-l _ _ h)) (or-f (here-now x (or-l _ _ b)) (here-now y (or-r (gone (has su) x) _ b)))
-  there-now (Want.Float x ∷ ws) h = or-f (there-now ws (or-l _ _ h)) (here-now x (or-r (missing (has su) ws) _ h))
+  there-now (Read.Float x ∷ ws) h = or-f (there-now ws (or-l _ _ h)) (here-now x (or-r (missing (has su) ws) _ h))
 
   -- and the kinds that meet are those of the text
-  pub wrong-now : (ws : List Want) → missing (has su) ws ≡ false → wrong (kindNow vs) ws ≡ wrong (kindAt k) ws
+  pub wrong-now : (ws : List Read) → missing (has su) ws ≡ false → wrong (kindNow vs) ws ≡ wrong (kindAt k) ws
   wrong-now [] h = refl
-  wrong-now (Want.Any x ∷ ws) h = wrong-now ws (or-l _ _ h)
-  wrong-now (Want.Alike x y ∷ ws) h =
+  wrong-now (Read.Any x ∷ ws) h = wrong-now ws (or-l _ _ h)
+  wrong-now (Read.Alike x y ∷ ws) h =
       let b = or-r (missing (has su) ws) _ h in
       rw (wrong-now ws (or-l _ _ h), kind-in x (or-l _ _ b), kind-in y (or-r (gone (has su) x) _ b))
-  wrong-now (Want.Float x ∷ ws) h = rw (wrong-now ws (or-l _ _ h), kind-in x (or-r (missing (has su) ws) _ h))
+  wrong-now (Read.Float x ∷ ws) h = rw (wrong-now ws (or-l _ _ h), kind-in x (or-r (missing (has su) ws) _ h))

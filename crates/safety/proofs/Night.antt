@@ -8,17 +8,18 @@ use lib.Ieee.{Float, nan}
 use lib.ListN.{length, replicate}
 use Rattle.value.specs.declared.Value.the-variants as Value
 use Rattle.value.specs.Literal.{plain, over}
-use Rattle.table.specs.declared.Script.{Script}
+use Rattle.table.specs.declared.Table.{Table}
 use Rattle.state.specs.declared.LoopSort.the-variants as LoopSort
-use Rattle.script.specs.Load.{loaded}
+use Rattle.loader.specs.Load.{loaded}
 use Rattle.rules.specs.Check.{accepted, verdict}
 use Rattle.state.specs.declared.Control.{Control}
 use Rattle.state.specs.declared.Control.the-variants as Control
 use Rattle.state.specs.declared.Offer.{Offer}
 use Rattle.state.specs.declared.Offer.the-variants as Offer
-use Rattle.state.specs.State.{da, ba, code0010, Run, Out, enters, leaves, packStart, packEnd, packPart, says, waits}
-use Rattle.state.specs.State.{setsE, setsMode, switchesCell, Answer, running, waiting, finished, stopped, refuse, fresh}
-use Rattle.machine.specs.Machine.{step}
+use Rattle.state.specs.State.{da, ba, code0010, State, Out, enters, leaves, packStart, packEnd, packPart, says, waits}
+use Rattle.state.specs.State.{setsE, setsMode, switchesCell, Answer, running, waiting, finished, stopped, refuse}
+use Rattle.state.specs.State.{fresh}
+use Rattle.steps.specs.Machine.{step}
 use Rattle.safety.specs.Texts.{night}
 use Rattle.safety.proofs.Opened.{all}
 
@@ -27,7 +28,7 @@ abbrev Entry : Type 0
 Entry = Control × Offer × Answer × List Out
 
 -- the steps of a run, told and offered as the entries say
-unfoldable pub log : ℕ → Script → Run → List Entry → List Entry
+unfoldable pub log : ℕ → Table → State → List Entry → List Entry
 log size t m [] = []
 log size t m (e ∷ es) = let s = step size t m (e .0) (e .1) in
     (e .0, e .1, s .answer, s .outs) ∷ log size t (s .next) es

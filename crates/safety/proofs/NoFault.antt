@@ -12,15 +12,15 @@ use Rattle.table.specs.declared.Condition.{Condition}
 use Rattle.table.specs.declared.Head.the-variants as Head
 use Rattle.table.specs.declared.Item.{Item}
 use Rattle.table.specs.declared.Item.the-variants as Item
-use Rattle.table.specs.declared.Want.{Want}
+use Rattle.table.specs.declared.Read.{Read}
 use Rattle.table.specs.Item.{isOpen, isLoop, opensA, fits}
-use Rattle.table.specs.Uses.{actUses, uses, Kinds, wrong, Names, missing, lowest}
+use Rattle.table.specs.ReadWrite.{actReads, readsOf, Kinds, wrong, Names, missing, lowest}
 use Rattle.mates.specs.declared.Open.{Open}
 use Rattle.mates.specs.Mates.{itemAt}
 use Rattle.rules.specs.Check.{anyBox}
 use Rattle.rules.proofs.Placed.{Box, Placed, plains}
-use Rattle.state.specs.State.{Vars, written, kindNow, holds, Run}
-use Rattle.machine.specs.Machine.{unwind, strays, reads, astray, tooDeep, faults, Chosen, otherwise, badOf, tries}
+use Rattle.state.specs.State.{Vars, written, kindNow, holds, State}
+use Rattle.steps.specs.Machine.{unwind, strays, reads, astray, tooDeep, faults, Chosen, otherwise, badOf, tries}
 use Rattle.safety.proofs.Laws.{no, no′}
 use Rattle.safety.proofs.Walk.{textKinds, Accepted, more, Clean, closes-fits, branch-fits, clean}
 use Rattle.safety.proofs.Boxes.{erase, Headed, Heads}
@@ -40,17 +40,17 @@ module _ {names size : ℕ} {items : List Item} (ok : Accepted names size items)
   pub readable : {su : Names} {vs : Vars} → Knows (textKinds items) su vs → Readable ok su vs
   readable a ws e f = rw (there-now a ws e, wrong-now a ws e, f)
 
-  abbrev NoFault : List Want → Vars → Type 0
+  abbrev NoFault : List Read → Vars → Type 0
   NoFault ws vs = (missing (written vs) ws ≡ false) × (wrong (kindNow vs) ws ≡ false)
 
   -- the item x reads only what is written, and of the right kinds
   reads-fine : (x : Item) {s : Placed} {vs : Vars} → Clean (textKinds items) s x → Knows (textKinds items) (s .sure) vs
       → NoFault (reads x) vs
-  reads-fine (Item.Act a) c n = (there-now n (actUses a) (c .there), wrong-now n (actUses a) (c .there) ∙ c .kinds)
+  reads-fine (Item.Act a) c n = (there-now n (actReads a) (c .there), wrong-now n (actReads a) (c .there) ∙ c .kinds)
   reads-fine (Item.Pack p) c n =
-      (there-now n (uses (Item.Pack p)) (c .there), wrong-now n (uses (Item.Pack p)) (c .there) ∙ c .kinds)
+      (there-now n (readsOf (Item.Pack p)) (c .there), wrong-now n (readsOf (Item.Pack p)) (c .there) ∙ c .kinds)
   reads-fine (Item.Open h) c n =
-      (there-now n (uses (Item.Open h)) (c .there), wrong-now n (uses (Item.Open h)) (c .there) ∙ c .kinds)
+      (there-now n (readsOf (Item.Open h)) (c .there), wrong-now n (readsOf (Item.Open h)) (c .there) ∙ c .kinds)
   reads-fine (Item.Branch b) c n = (refl, refl)
   reads-fine (Item.Close e) c n = (refl, refl)
   reads-fine Item.Break c n = (refl, refl)
@@ -93,7 +93,7 @@ module _ {names size : ℕ} {items : List Item} (ok : Accepted names size items)
             found = rw (item, e) (r .found);
           }
 
-  pub innermost-loop : {m : Run} {su : Names} {l : List Box} {p tg : Bool} {k : Kinds} {xs : List Item}
+  pub innermost-loop : {m : State} {su : Names} {l : List Box} {p tg : Bool} {k : Kinds} {xs : List Item}
       → Here ok m su l p tg k (Item.Break ∷ xs)
       → Loop (m .at) (erase l) (Item.Break ∷ xs) tg l
   innermost-loop {l = []} h = no ((clean ok (h .reach)) .placed)
@@ -105,7 +105,7 @@ module _ {names size : ℕ} {items : List Item} (ok : Accepted names size items)
       → strays x ps (erase (b ∷ bs)) ≡ false
   strays-not x b bs q f = rw (q, f, eq-eqb (b .at) (b .at) refl)
 
-  module _ {m : Run} {su : Names} {p tg : Bool} {k : Kinds} {xs : List Item} where
+  module _ {m : State} {su : Names} {p tg : Bool} {k : Kinds} {xs : List Item} where
     not-astray : (x : Item) (l : List Box) → Here ok m su l p tg k (x ∷ xs) → astray items m x ≡ false
     not-astray (Item.Act a) l h = refl
     not-astray (Item.Pack a) l h = refl
@@ -127,7 +127,7 @@ module _ {names size : ℕ} {items : List Item} (ok : Accepted names size items)
 
   -- ---- 63, and all of them
 
-  module _ {m : Run} {su : Names} {l : List Box} {p tg : Bool} {k : Kinds} {x : Item} {xs : List Item}
+  module _ {m : State} {su : Names} {l : List Box} {p tg : Bool} {k : Kinds} {x : Item} {xs : List Item}
       (h : Here ok m su l p tg k (x ∷ xs)) where
     not-full : tooDeep m x ≡ false
     not-full = go (h .boxes)
@@ -145,7 +145,7 @@ module _ {names size : ℕ} {items : List Item} (ok : Accepted names size items)
 
   -- ---- the mates that a false condition tries
 
-  module _ {m : Run} {su : Names} {l : List Box} {p tg : Bool} {k : Kinds} {c : Condition} {xs : List Item}
+  module _ {m : State} {su : Names} {l : List Box} {p tg : Bool} {k : Kinds} {c : Condition} {xs : List Item}
       (h : Here ok m su l p tg k (Item.Open (Head.If c) ∷ xs)) where
     pub mates-good : Picks items (m .at) su l (otherwise items m)
     mates-good =
@@ -157,7 +157,7 @@ module _ {names size : ℕ} {items : List Item} (ok : Accepted names size items)
   picks-good (goes r e f) = refl
   picks-good (passes r e) = refl
 
-  pub no-try : {m : Run} {su : Names} {l : List Box} {p tg : Bool} {k : Kinds} (x : Item) {xs : List Item}
+  pub no-try : {m : State} {su : Names} {l : List Box} {p tg : Bool} {k : Kinds} (x : Item) {xs : List Item}
       → Here ok m su l p tg k (x ∷ xs) → tries items m x ≡ 0
   no-try (Item.Act a) h = refl
   no-try (Item.Pack q) h = refl

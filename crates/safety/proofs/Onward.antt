@@ -10,16 +10,16 @@ use borrow.Author.Tests.{eqb-true}
 use Rattle.table.specs.declared.Item.{Item}
 use Rattle.table.specs.declared.Known.{Known}
 use Rattle.table.specs.declared.Known.the-variants as Known
-use Rattle.table.specs.declared.Script.{Script}
+use Rattle.table.specs.declared.Table.{Table}
 use Rattle.table.specs.Shape.{inShape, itemsOf}
-use Rattle.table.specs.Uses.{lowest}
-use Rattle.script.specs.Load.{loaded}
-use Rattle.rules.specs.Check.{State as Walked, begin, kindsOf, refusals, refusalsAtEnd, after}
+use Rattle.table.specs.ReadWrite.{lowest}
+use Rattle.loader.specs.Load.{loaded}
+use Rattle.rules.specs.Check.{Held as Walked, begin, kindsOf, refusals, refusalsAtEnd, after}
 use Rattle.rules.specs.Check.{Verdict, accepted, refused, orGo, walk, atLine, walked, verdict}
 use Rattle.state.specs.declared.Control.{Control}
 use Rattle.state.specs.declared.Offer.{Offer}
-use Rattle.state.specs.State.{Run, fresh}
-use Rattle.state.specs.Meaning.{runOf}
+use Rattle.state.specs.State.{State, fresh}
+use Rattle.state.specs.Meaning.{stateOf}
 use Rattle.machine.specs.Course.{Course, runFrom, courseOf, Comes}
 use Rattle.machine.specs.Parts.{followed, Call, Called, stepsOfAll, courseOfAll, lastOfAll}
 use Rattle.machine.proofs.Parts.{in-parts, all-chain}
@@ -47,14 +47,14 @@ walk-tells k i s [] = go-tells (lowest (refusalsAtEnd s)) i accepted (λ e. refl
 walk-tells k i s (x ∷ xs) =
     go-tells (lowest (refusals k s x)) i (walk k (suc i) (after s x) xs) (walk-tells k (suc i) (after s x) xs)
 
-line-tells : (t : Script) (v : Verdict) → Tells v → Tells (atLine t v)
+line-tells : (t : Table) (v : Verdict) → Tells v → Tells (atLine t v)
 line-tells t accepted f = λ e. refl
 line-tells t (refused n i) f = λ e. ap (λ (v : Verdict). atLine t v) (f e)
 
-walked-tells : (t : Script) → Tells (walked t)
+walked-tells : (t : Table) → Tells (walked t)
 walked-tells t = walk-tells (kindsOf (replicate 32 Known.Unknown) (itemsOf t)) 0 begin (itemsOf t)
 
-verdict-tells : (size : ℕ) (t : Script) → Tells (verdict size t)
+verdict-tells : (size : ℕ) (t : Table) → Tells (verdict size t)
 unfolding verdict
 verdict-tells size t = go (inShape size t)
   where
@@ -116,18 +116,18 @@ on-and-on text ps r calls e z h =
     let m = r .ran .state in
     let p = passed text ps (meaning r) e z in
     let c = all-chain size t m calls h in
-    let at : runOf m ≡ runFrom size t fresh ps .last = ap (λ (x : Course). x .last) (p .came) in
-    let onward : Promises size t (runOf m) qs =
-    subst (λ (x : Run). Promises size t x qs) (sym at) (safe-onward size t (p .ok) ps qs) in
+    let at : stateOf m ≡ runFrom size t fresh ps .last = ap (λ (x : Course). x .last) (p .came) in
+    let onward : Promises size t (stateOf m) qs =
+    subst (λ (x : State). Promises size t x qs) (sym at) (safe-onward size t (p .ok) ps qs) in
     record {
       whole =
           ap (λ (x : Course). followed (courseOf (r .ran)) x) (c .says)
-          ∙ ap (λ (x : Run). followed (courseOf (r .ran)) (runFrom size t x qs)) at
+          ∙ ap (λ (x : State). followed (courseOf (r .ran)) (runFrom size t x qs)) at
           ∙ ap (λ (x : Course). followed x (runFrom size t (runFrom size t fresh ps .last) qs)) (p .came)
           ∙ sym (in-parts size t fresh ps qs);
       promises = safe size t (p .ok) (ps ++ qs);
       onward = onward;
       allowed =
           ap (λ (x : Course). allAllowed (x .answers)) (c .says)
-          ∙ promised-answers size t (p .ok) qs (runOf m) onward;
+          ∙ promised-answers size t (p .ok) qs (stateOf m) onward;
     }

@@ -9,10 +9,10 @@ use Rattle.argument.specs.Argument
 use Rattle.argument.specs.Refusal
 use Rattle.line.specs.Command
 use Rattle.line.specs.Line
-use Rattle.script.specs.Load
+use Rattle.loader.specs.Load
 use Rattle.table.specs.Shape
 use Rattle.rules.specs.Check
-use Rattle.machine.specs.Machine
+use Rattle.steps.specs.Machine
 use Rattle.machine.specs.Course
 use lib.Ieee
 

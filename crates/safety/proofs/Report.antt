@@ -8,14 +8,14 @@ use borrow.Author.Tests.{ne-eqb}
 use native.Mathlib.Omega.{arith}
 use lib.ListN.{length, take}
 use lib.Seq.{take-take}
-use Rattle.table.specs.declared.Script.{Script}
+use Rattle.table.specs.declared.Table.{Table}
 use Rattle.argument.specs.declared.Refusal.{Refusal}
 use Rattle.argument.specs.Refusal.{numberOf as formNumber}
-use Rattle.script.specs.declared.Answer.the-variants as Answer
-use Rattle.script.specs.declared.Loaded.{Loaded}
-use Rattle.script.specs.Load.{loaded, meaning as loadedMeaning}
-use Rattle.script.proofs.Walk.{not-zero}
-use Rattle.rules.specs.declared.Rule.{Rule}
+use Rattle.loader.specs.declared.Answer.the-variants as Answer
+use Rattle.loader.specs.declared.Loaded.{Loaded}
+use Rattle.loader.specs.Load.{loaded, meaning as loadedMeaning}
+use Rattle.loader.proofs.Walk.{not-zero}
+use Rattle.rules.specs.declared.Refusal.{Refusal as Rule}
 use Rattle.rules.specs.declared.Verdict.{Verdict as Judgement}
 use Rattle.rules.specs.declared.Verdict.the-variants as Judgement
 use Rattle.rules.specs.Check.{Verdict, accepted, refused, verdict}
@@ -23,19 +23,20 @@ use Rattle.rules.specs.Verdict.{numberOf as ruleNumber, meaning as verdictMeani
 use Rattle.state.specs.declared.Control.{Control}
 use Rattle.state.specs.declared.Offer.{Offer}
 use Rattle.state.specs.State.{fresh}
-use Rattle.state.specs.declared.State.{State}
 use Rattle.machine.specs.declared.Steps.{Steps}
 use Rattle.machine.specs.declared.Ran.{Ran}
-use Rattle.state.specs.Meaning.{runOf, Neat}
+use Rattle.state.specs.Meaning.{stateOf, Neat}
+use Rattle.state.specs.declared.State as coded
 use Rattle.machine.specs.Course.{runFrom, allTold, stepsOf, courseOf, allStay, restingAll, ExactRun}
 use Rattle.machine.proofs.Resting.{all-alike, alike-neat}
 use Rattle.table.specs.Shape.{itemsOf}
 use Rattle.safety.specs.Safety.{allAllowed}
 use Rattle.safety.specs.declared.Checked.{Checked}
-use Rattle.safety.specs.Outcome.{Outcome, refusal, judged, checkedOutcome, outcome, Fixed, meaning, ExactOutcome}
+use Rattle.safety.specs.Outcome.{Outcome, refusal, judged, checkedOutcome, outcome, Fixed, meaning}
+use Rattle.safety.specs.Outcome.{ExactOutcome}
 use Rattle.safety.proofs.Safe.{answers-allowed}
 
-module _ (size : ℕ) (t : Script) (ps : List (Control × Offer)) (v : Judgement) (p : verdictMeaning v ≡ verdict size t)
+module _ (size : ℕ) (t : Table) (ps : List (Control × Offer)) (v : Judgement) (p : verdictMeaning v ≡ verdict size t)
   where
     pub rules-yes : v ≡ Judgement.Accepted
         → checkedOutcome size t ps ≡ record { number = 0; line = 0; course = runFrom size t fresh ps }
@@ -47,7 +48,7 @@ module _ (size : ℕ) (t : Script) (ps : List (Control × Offer)) (v : Judgement
     rules-no r k e = rw (← p, e)
 
 module _ (text : List ℕ) (ps : List (Control × Offer)) (l : Loaded) (p : loadedMeaning l ≡ loaded text) where
-  pub form-yes : l .answer ≡ Answer.Accepted → outcome text ps ≡ checkedOutcome (length text) (l .script) ps
+  pub form-yes : l .answer ≡ Answer.Accepted → outcome text ps ≡ checkedOutcome (length text) (l .table) ps
   unfolding outcome
   form-yes e = rw (← p, e)
 
@@ -57,7 +58,7 @@ module _ (text : List ℕ) (ps : List (Control × Offer)) (l : Loaded) (p : load
 
 -- ---- the promise
 
-checked-allowed : (size : ℕ) (t : Script) (ps : List (Control × Offer))
+checked-allowed : (size : ℕ) (t : Table) (ps : List (Control × Offer))
     → allAllowed ((checkedOutcome size t ps) .course .answers) ≡ true
 unfolding checkedOutcome
 checked-allowed size t ps = go (verdict size t) refl
@@ -88,19 +89,19 @@ exact {text} {ps} said leaves =
 
 -- ---- the run
 
-pub from-fresh : {size : ℕ} {t : Script} {m : State} (s : Steps) {r : Ran} → runOf m ≡ fresh
+pub from-fresh : {size : ℕ} {t : Table} {m : coded.State} (s : Steps) {r : Ran} → stateOf m ≡ fresh
     → ExactRun size t m (take (s .count) (stepsOf s)) r → courseOf r ≡ runFrom size t fresh (stepsOf s)
 from-fresh s f e = e .comes .says ∙ rw (f, take-take (s .count) (s .count) (allTold (s .at)) (omega arith))
 
 -- a run from a neat state leaves a neat one
-pub fixed : {size : ℕ} {t : Script} {m : State} {ps : List (Control × Offer)} {r : Ran} → Neat m
+pub fixed : {size : ℕ} {t : Table} {m : coded.State} {ps : List (Control × Offer)} {r : Ran} → Neat m
     → ExactRun size t m ps r → Fixed r
 fixed {size} {t} {m} {ps} {r} n e = record {
-  neat = go (allStay (runOf m .status) ((courseOf r) .answers)) refl;
+  neat = go (allStay (stateOf m .status) ((courseOf r) .answers)) refl;
   blank = e .blank;
 }
   where
-    go : (b : Bool) → allStay (runOf m .status) ((courseOf r) .answers) ≡ b → Neat (r .state)
+    go : (b : Bool) → allStay (stateOf m .status) ((courseOf r) .answers) ≡ b → Neat (r .state)
     go true q =
         subst Neat (sym (e .comes .rests q))
         (alike-neat (restingAll (itemsOf t) m ps ((courseOf r) .answers)) m

@@ -13,7 +13,7 @@ use Rattle.value.specs.declared.Calculated.the-variants as Calculated
 use Rattle.value.specs.Arithmetic.{finite, isFinite, isZero, checked, wholes, reals, calculated}
 use Rattle.table.specs.declared.Kind.{Kind}
 use Rattle.table.specs.declared.Kind.the-variants as Kind
-use Rattle.table.specs.Uses.{kindOf}
+use Rattle.table.specs.ReadWrite.{kindOf}
 
 abbrev pub OfKind : Kind → Value → Type 0
 OfKind k u = (finite u ≡ true) × (kindOf u ≡ k)

@@ -6,14 +6,14 @@ use mathlib.Core.List.{List, [], _∷_, _++_}
 use lib.Dec.{leb}
 use lib.ListN.{length}
 use borrow.Author.Tests.{leb-true}
-use Rattle.table.specs.declared.Script.{Script}
+use Rattle.table.specs.declared.Table.{Table}
 use Rattle.table.specs.Shape.{itemsOf, itemsOk, inShape}
-use Rattle.script.specs.Load.{loaded}
+use Rattle.loader.specs.Load.{loaded}
 use Rattle.rules.specs.Check.{Verdict, accepted, refused, atLine, walked, verdict}
 use Rattle.state.specs.declared.Control.{Control}
 use Rattle.state.specs.declared.Offer.{Offer}
-use Rattle.state.specs.State.{Run, fresh}
-use Rattle.machine.specs.Machine.{step}
+use Rattle.state.specs.State.{State, fresh}
+use Rattle.steps.specs.Machine.{step}
 use Rattle.machine.specs.Course.{runFrom}
 use Rattle.safety.specs.Safety.{Promises, Safe, SafeText, SafeOnward, SafeTextOnward, allAllowed}
 use Rattle.safety.proofs.Laws.{and-l, and-r, and-t}
@@ -25,11 +25,11 @@ cond-accepted : (b : Bool) (v : Verdict) → cond b v (refused 30 0) ≡ accepte
 cond-accepted true v e = (refl, e)
 cond-accepted false v e = (cc, cc)
 
-line-accepted : (t : Script) (v : Verdict) → atLine t v ≡ accepted → v ≡ accepted
+line-accepted : (t : Table) (v : Verdict) → atLine t v ≡ accepted → v ≡ accepted
 line-accepted t accepted e = refl
 line-accepted t (refused n i) e = cc
 
-module _ (size : ℕ) (t : Script) (ok : verdict size t ≡ accepted) where
+module _ (size : ℕ) (t : Table) (ok : verdict size t ≡ accepted) where
   in-shape : inShape size t ≡ true
   unfolding verdict
   in-shape = (cond-accepted (inShape size t) _ ok) .0
@@ -45,11 +45,11 @@ module _ (size : ℕ) (t : Script) (ok : verdict size t ≡ accepted) where
         passed = line-accepted t (walked t) ((cond-accepted (inShape size t) _ ok) .1);
       }
 
-  step-kept : (m : Run) (c : Control) (o : Offer) → Good accepts m → Kept accepts m c o (step size t m c o)
+  step-kept : (m : State) (c : Control) (o : Offer) → Good accepts m → Kept accepts m c o (step size t m c o)
   unfolding step
   step-kept m c o g = rw (in-shape, g .shape) (again-kept accepts m c o g)
 
-  runs-kept : (ps : List (Control × Offer)) (m : Run) → Good accepts m → Promises size t m ps
+  runs-kept : (ps : List (Control × Offer)) (m : State) → Good accepts m → Promises size t m ps
   runs-kept [] m g = tt
   runs-kept (p ∷ ps) m g =
       let f = step-kept m (p .0) (p .1) g in
@@ -60,7 +60,7 @@ module _ (size : ℕ) (t : Script) (ok : verdict size t ≡ accepted) where
   safe ps = runs-kept ps fresh (fresh-good accepts)
 
   -- the promise of a run is that of each of its parts
-  promised-onward : (ps qs : List (Control × Offer)) (m : Run) → Promises size t m (ps ++ qs)
+  promised-onward : (ps qs : List (Control × Offer)) (m : State) → Promises size t m (ps ++ qs)
       → Promises size t (runFrom size t m ps .last) qs
   unfolding runFrom
   promised-onward [] qs m h = h
@@ -69,7 +69,7 @@ module _ (size : ℕ) (t : Script) (ok : verdict size t ≡ accepted) where
   pub safe-onward : SafeOnward size t
   safe-onward ps qs = promised-onward ps qs fresh (safe (ps ++ qs))
 
-  pub promised-answers : (ps : List (Control × Offer)) (m : Run) → Promises size t m ps
+  pub promised-answers : (ps : List (Control × Offer)) (m : State) → Promises size t m ps
       → allAllowed ((runFrom size t m ps) .answers) ≡ true
   unfolding runFrom
   promised-answers [] m h = refl

@@ -13,14 +13,14 @@ use Rattle.table.specs.declared.Head.{Head}
 use Rattle.table.specs.declared.Item.{Item}
 use Rattle.table.specs.declared.Item.the-variants as Item
 use Rattle.table.specs.Item.{isOpen, isLoop, opensA}
-use Rattle.table.specs.Uses.{gives, Kinds, kindAt, Names}
+use Rattle.table.specs.ReadWrite.{writesOf, Kinds, kindAt, Names}
 use Rattle.mates.specs.declared.Open.{Open}
 use Rattle.mates.specs.Mates.{closeOf, itemAt}
 use Rattle.rules.specs.Check.{isKnown, learn, kindsOf}
 use Rattle.rules.proofs.Placed.{Box, Placed}
 use Rattle.rules.proofs.Writes.{learns}
-use Rattle.state.specs.State.{Status, live, finishedRun, stoppedRun, faultRun, Run}
-use Rattle.machine.specs.Machine.{outside, isNone, opensOk, runOk}
+use Rattle.state.specs.State.{Status, live, finishedRun, stoppedRun, faultRun, State}
+use Rattle.steps.specs.Machine.{outside, isNone, opensOk, stateOk}
 use Rattle.safety.specs.Safety.{isCode}
 use Rattle.safety.proofs.Laws.{no, no′, and-t}
 use Rattle.safety.proofs.Walk.{textKinds, Accepted, state, Reach, clean, reach-kinds}
@@ -54,7 +54,7 @@ outside-eq i xs ps l w (inr q) = rw (q .0, eq-eqb i i refl)
 
 module _ {names size : ℕ} {items : List Item} (ok : Accepted names size items) where
   -- the checker's state before the item: su surely written, the boxes l, a package open or not, the tag seen or not
-  pub record Here (m : Run) (su : Names) (l : List Box) (p tg : Bool) (k : Kinds) (xs : List Item) : Type 0 where
+  pub record Here (m : State) (su : Names) (l : List Box) (p tg : Bool) (k : Kinds) (xs : List Item) : Type 0 where
     pub reach : Reach items (m .at) (state su l p tg) k xs
     pub boxes : Opened (m .at) xs (m .boxes) l
     pub packed : m .packed ≡ p
@@ -63,7 +63,7 @@ module _ {names size : ℕ} {items : List Item} (ok : Accepted names size items)
     pub vars : VarsOk (textKinds items) (m .vars)
     pub living : m .status ≡ live
 
-  pub record Inv (m : Run) : Type 0 where
+  pub record Inv (m : State) : Type 0 where
     pub su : Names
     pub l : List Box
     pub p : Bool
@@ -73,14 +73,14 @@ module _ {names size : ℕ} {items : List Item} (ok : Accepted names size items)
     pub stands : Here m su l p tg k xs
 
   -- a run that has ended or stopped only repeats its answer; it is never broken by a fault
-  abbrev pub Life : Status → Run → Type 0
+  abbrev pub Life : Status → State → Type 0
   Life live m = Inv m
   Life finishedRun m = Unit {0}
   Life (stoppedRun c) m = isCode c ≡ true
   Life (faultRun n) m = ⊥
 
-  pub record Good (m : Run) : Type 0 where
-    pub shape : runOk items m ≡ true
+  pub record Good (m : State) : Type 0 where
+    pub shape : stateOk items m ≡ true
     pub life : Life (m .status) m
 
   -- ---- a run that stands so is in shape
@@ -125,8 +125,8 @@ module _ {names size : ℕ} {items : List Item} (ok : Accepted names size items)
   opens-ok (Item.Break ∷ xs) ps r (inr q) = no′ (q .1)
   opens-ok (Item.Tag ∷ xs) ps r (inr q) = no′ (q .1)
 
-  module _ {m : Run} {su : Names} {l : List Box} {p tg : Bool} {k : Kinds} where
-    pub shape-of : {xs : List Item} → Here m su l p tg k xs → runOk items m ≡ true
+  module _ {m : State} {su : Names} {l : List Box} {p tg : Bool} {k : Kinds} where
+    pub shape-of : {xs : List Item} → Here m su l p tg k xs → stateOk items m ≡ true
     shape-of {xs} h =
         let s = static ok (h .reach) in
         let o = opens-ok xs (m .boxes) (h .reach) (h .boxes) in
@@ -164,12 +164,12 @@ module _ {names size : ℕ} {items : List Item} (ok : Accepted names size items)
   kinds-up : (xs : List Item) (k : Kinds) (n : ℕ) → isKnown (kindAt k n) ≡ true
       → isKnown (kindAt (kindsOf k xs) n) ≡ true
   kinds-up [] k n h = h
-  kinds-up (x ∷ xs) k n h = rw (learns k x) (kinds-up xs (learn k (gives x)) n (learn-up (gives x) k n h))
+  kinds-up (x ∷ xs) k n h = rw (learns k x) (kinds-up xs (learn k (writesOf x)) n (learn-up (writesOf x) k n h))
 
   sure-kinds : {i : ℕ} {s : Placed} {k : Kinds} {xs : List Item} → Reach items i s k xs
       → Within (s .sure) (textKinds items)
   sure-kinds {k = k} {xs = xs} r n h = rw (reach-kinds ok r) at (kinds-up xs k n ((static ok r) .sure-known n h))
 
-  pub knows : {m : Run} {su : Names} {l : List Box} {p tg : Bool} {k : Kinds} {xs : List Item} → Here m su l p tg k xs
+  pub knows : {m : State} {su : Names} {l : List Box} {p tg : Bool} {k : Kinds} {xs : List Item} → Here m su l p tg k xs
       → Knows (textKinds items) su (m .vars)
   knows h = record { cover = h .cover; kinds = sure-kinds (h .reach); vars = h .vars }

@@ -7,7 +7,7 @@ use native.Mathlib.Omega.{arith}
 use lib.ListN.{length, drop}
 use Rattle.laws.proofs.Lists.{drop-step}
 use Rattle.table.specs.declared.Item.{Item}
-use Rattle.table.specs.Uses.{gives, Kinds}
+use Rattle.table.specs.ReadWrite.{writesOf, Kinds}
 use Rattle.mates.specs.declared.Open.{Open}
 use Rattle.mates.specs.Mates.{scan, boxesAt}
 use Rattle.rules.proofs.Placed.{Placed, after}
@@ -59,5 +59,5 @@ module _ {names size : ℕ} {items : List Item} (ok : Accepted names size items)
             (q .sure-known) (q .boxes-known);
         boxes-known =
             known-after ok i (s .sure) (s .packed) (s .tagged) k (s .boxes) x (q .sure-known) (q .boxes-known);
-        klen = learn-length (gives x) k ∙ q .klen;
+        klen = learn-length (writesOf x) k ∙ q .klen;
       }

@@ -11,19 +11,20 @@ use borrow.Author.Tests.{le-leb, not-true}
 use Rattle.table.specs.declared.Item.{Item}
 use Rattle.table.specs.declared.Item.the-variants as Item
 use Rattle.table.specs.Item.{isSweep}
-use Rattle.table.specs.Uses.{Kinds, Names, lowest}
+use Rattle.table.specs.ReadWrite.{Kinds, Names, lowest}
 use Rattle.rules.specs.Check.{isEmpty}
 use Rattle.rules.proofs.Placed.{Box, Placed, plains}
 use Rattle.state.specs.declared.Control.{Control}
 use Rattle.state.specs.declared.Control.the-variants as Control
 use Rattle.state.specs.declared.Offer.{Offer}
 use Rattle.state.specs.declared.Offer.the-variants as Offer
-use Rattle.state.specs.State.{Run, Out, Step, said, Meets, ready, short, amiss, wantsNothing, wantedBy, meets, cleared}
+use Rattle.state.specs.State.{State, Out, Step, said, Meets, ready, short, amiss, wantsNothing, wantedBy, meets}
+use Rattle.state.specs.State.{cleared}
 use Rattle.state.specs.State.{flagged}
-use Rattle.machine.specs.Machine.{isEmpty as noneOpen, anyOpen, leaveOuts, isNone, next, run, served, finish, atItem}
-use Rattle.machine.specs.Machine.{told, tagFrom, ahead, abortDue, aborted, moved, runOk}
+use Rattle.steps.specs.Machine.{isEmpty as noneOpen, anyOpen, leaveOuts, isNone, next, run, served, finish, atItem}
+use Rattle.steps.specs.Machine.{told, tagFrom, ahead, abortDue, aborted, moved, stateOk}
 use Rattle.safety.specs.Safety.{wantedFrom, wantedAt, isAmiss}
-use Rattle.machine.proofs.Stepping.{ahead-is}
+use Rattle.steps.proofs.Stepping.{ahead-is}
 use Rattle.safety.proofs.Laws.{no, no′, or-r, and-r, not-nothing}
 use Rattle.safety.proofs.Walk.{Accepted, state, Reach, outset, more, clean, ends}
 use Rattle.safety.proofs.Static.{static}
@@ -47,16 +48,16 @@ quiet-short Offer.Done = refl
 module _ {names size : ℕ} {items : List Item} (ok : Accepted names size items) where
   -- a step of a run m that lives: made where the offer is what is wanted; m₁ is the run with the control, which a wait
   -- keeps
-  pub record Comes (m : Run) (wr : Bool) (s : Step) : Type 0 where
+  pub record Comes (m : State) (wr : Bool) (s : Step) : Type 0 where
     pub met : Meets
-    pub m₁ : Run
+    pub m₁ : State
     pub made : Step
     pub is : s ≡ served m m₁ met made
     pub amiss-is : isAmiss met ≡ wr
     pub waits : isShort met ≡ true → Good ok m₁
     pub fine : FineStep ok made
 
-  quiet-comes : (m m₁ : Run) (o : Offer) (s : Step) → FineStep ok s
+  quiet-comes : (m m₁ : State) (o : Offer) (s : Step) → FineStep ok s
       → Comes m (isAmiss (meets wantsNothing o)) (served m m₁ (meets wantsNothing o) s)
   quiet-comes m m₁ o s f =
       record {
@@ -69,7 +70,7 @@ module _ {names size : ℕ} {items : List Item} (ok : Accepted names size items)
         fine = f;
       }
 
-  finish-comes : (m₀ m : Run) (o : Offer) (os : List Out) → runOk items m ≡ true
+  finish-comes : (m₀ m : State) (o : Offer) (os : List Out) → stateOk items m ≡ true
       → Comes m₀ (isAmiss (meets wantsNothing o)) (finish m₀ m o os)
   finish-comes m₀ m o os g = quiet-comes m₀ m o _ (record { shape = g; life = tt })
 
@@ -101,7 +102,7 @@ module _ {names size : ℕ} {items : List Item} (ok : Accepted names size items)
 
   -- ---- from where the walk stood, m₀ before the step and m with the control
 
-  module _ (m₀ : Run) {m : Run} {su : Names} {l : List Box} {p tg : Bool} {k : Kinds} (o : Offer) where
+  module _ (m₀ : State) {m : State} {su : Names} {l : List Box} {p tg : Bool} {k : Kinds} (o : Offer) where
     end-boxes : Here ok m su l p tg k [] → noneOpen (m .boxes) ≡ true
     end-boxes h = go l (h .boxes) ((ends ok (h .reach)) .0)
       where
@@ -129,7 +130,7 @@ module _ {names size : ℕ} {items : List Item} (ok : Accepted names size items)
 
     module _ {xs : List Item} (h : Here ok m su l p tg k xs) where
       -- all boxes closed, at item i
-      cleared-ok : (i : ℕ) → i ≤ length items → runOk items (cleared m i) ≡ true
+      cleared-ok : (i : ℕ) → i ≤ length items → stateOk items (cleared m i) ≡ true
       cleared-ok i g = rw (le-leb i (length items) g, cells-ok (m .vars) (h .vars .fine))
 
       abbrev to-end : Step
@@ -172,7 +173,7 @@ module _ {names size : ℕ} {items : List Item} (ok : Accepted names size items)
           go false e = rw ((static ok (h .reach)) .text) (item-comes xs h)
 
   -- the flags move nothing, and so the control moves nothing
-  flagged-here : {m : Run} (a b : Bool) {su : Names} {l : List Box} {p tg : Bool} {k : Kinds} {xs : List Item}
+  flagged-here : {m : State} (a b : Bool) {su : Names} {l : List Box} {p tg : Bool} {k : Kinds} {xs : List Item}
       → Here ok m su l p tg k xs → Here ok (flagged m a b) su l p tg k xs
   flagged-here a b h =
       record {
@@ -185,7 +186,7 @@ module _ {names size : ℕ} {items : List Item} (ok : Accepted names size items)
         living = h .living;
       }
 
-  pub told-here : {m : Run} (c : Control) {su : Names} {l : List Box} {p tg : Bool} {k : Kinds} {xs : List Item}
+  pub told-here : {m : State} (c : Control) {su : Names} {l : List Box} {p tg : Bool} {k : Kinds} {xs : List Item}
       → Here ok m su l p tg k xs → Here ok (told items m c) su l p tg k xs
   told-here {m} Control.None h = h
   told-here {m} Control.Z h = flagged-here true (m .skip) h

@@ -21,16 +21,17 @@ use Rattle.table.specs.declared.Sort.the-variants as Sort
 use Rattle.table.specs.declared.Kind.the-variants as Kind
 use Rattle.table.specs.declared.Known.{Known}
 use Rattle.table.specs.declared.Known.the-variants as Known
-use Rattle.table.specs.declared.Give.{Give}
-use Rattle.table.specs.declared.Give.the-variants as Give
-use Rattle.table.specs.Uses.{actUses, uses, actGives, headGives, gives, Kinds, kindAt, kindIn, Names, has, gone}
-use Rattle.table.specs.Uses.{missing}
-use Rattle.table.specs.Shape.{givesOk, itemOk}
+use Rattle.table.specs.declared.Write.{Write}
+use Rattle.table.specs.declared.Write.the-variants as Write
+use Rattle.table.specs.ReadWrite.{actReads, readsOf, actWrites, headWrites, writesOf, Kinds, kindAt, kindIn, Names}
+use Rattle.table.specs.ReadWrite.{has, gone}
+use Rattle.table.specs.ReadWrite.{missing}
+use Rattle.table.specs.Shape.{writesOk, itemOk}
 use Rattle.sets.specs.Names.{everything, both, put}
 use Rattle.rules.specs.Check.{isKnown, orElse, learn, base, afterBox}
 use Rattle.rules.proofs.Placed.{Box, plain, bare, after}
 use Rattle.safety.proofs.Laws.{no′, or-l, and-l, AfterSet, getD-set, both-l, both-r, not-nothing}
-use Rattle.safety.proofs.Walk.{Accepted, state, gives-ok, like-below, float-below}
+use Rattle.safety.proofs.Walk.{Accepted, state, writes-ok, like-below, float-below}
 
 -- every name of the set has a kind
 abbrev pub Within : Names → Kinds → Type 0
@@ -41,11 +42,11 @@ AllWithin [] k = Unit {0}
 AllWithin (b ∷ bs) k = Within (b .before) k × AllWithin bs k
 
 -- each name written is one of the 32, with a kind that is known
-abbrev Giving : Kinds → List Give → Type 0
+abbrev Giving : Kinds → List Write → Type 0
 Giving k [] = Unit {0}
-Giving k (Give.Like n x ∷ gs) =
+Giving k (Write.Like n x ∷ gs) =
     (n < 32) × (isKnown (kindIn (kindAt k) x) ≡ true) × Giving (set k n (orElse (kindAt k n) (kindIn (kindAt k) x))) gs
-Giving k (Give.Float n ∷ gs) = (n < 32) × Giving (set k n (orElse (kindAt k n) (Known.Of Kind.Real))) gs
+Giving k (Write.Float n ∷ gs) = (n < 32) × Giving (set k n (orElse (kindAt k n) (Known.Of Kind.Real))) gs
 
 known-or : (a b : Known) → isKnown b ≡ true → isKnown (orElse a b) ≡ true
 known-or Known.Unknown b h = h
@@ -65,11 +66,11 @@ kind-up k v y n h = go (getD-set k v (orElse (kindAt k v) y) n Known.Unknown)
     go (inl q) = ap isKnown (q .1) ∙ known-orl (kindAt k v) y (ap (λ (m : ℕ). isKnown (kindAt k m)) (sym (q .0)) ∙ h)
     go (inr q) = ap isKnown q ∙ h
 
-pub learn-up : (gs : List Give) (k : Kinds) (n : ℕ) → isKnown (kindAt k n) ≡ true
+pub learn-up : (gs : List Write) (k : Kinds) (n : ℕ) → isKnown (kindAt k n) ≡ true
     → isKnown (kindAt (learn k gs) n) ≡ true
 learn-up [] k n h = h
-learn-up (Give.Like v x ∷ gs) k n h = learn-up gs _ n (kind-up k v (kindIn (kindAt k) x) n h)
-learn-up (Give.Float v ∷ gs) k n h = learn-up gs _ n (kind-up k v (Known.Of Kind.Real) n h)
+learn-up (Write.Like v x ∷ gs) k n h = learn-up gs _ n (kind-up k v (kindIn (kindAt k) x) n h)
+learn-up (Write.Float v ∷ gs) k n h = learn-up gs _ n (kind-up k v (Known.Of Kind.Real) n h)
 
 -- what is put is known, where the kind given is
 set-known : (s : Names) (k : Kinds) (v : ℕ) (y : Known) → length k ≡ 32 → v < 32 → isKnown y ≡ true → Within s k
@@ -81,28 +82,28 @@ set-known s k v y l u e w n h = go (getD-set s v true n false)
         rw (q .0, getD-set-same k v (orElse (kindAt k v) y) Known.Unknown (omega arith)) (known-or (kindAt k v) y e)
     go (inr q) = kind-up k v y n (w n (sym q ∙ h))
 
-put-known : (gs : List Give) (s : Names) (k : Kinds) → length k ≡ 32 → Within s k → Giving k gs
+put-known : (gs : List Write) (s : Names) (k : Kinds) → length k ≡ 32 → Within s k → Giving k gs
     → Within (put s gs) (learn k gs)
 put-known [] s k l w g = w
-put-known (Give.Like v x ∷ gs) s k l w g =
+put-known (Write.Like v x ∷ gs) s k l w g =
     put-known gs _ _ (length-set k v _ ∙ l) (set-known s k v (kindIn (kindAt k) x) l (g .0) (g .1) w) (g .2)
-put-known (Give.Float v ∷ gs) s k l w g =
+put-known (Write.Float v ∷ gs) s k l w g =
     put-known gs _ _ (length-set k v _ ∙ l) (set-known s k v (Known.Of Kind.Real) l (g .0) refl w) (g .1)
 
-pub learn-length : (gs : List Give) (k : Kinds) → length (learn k gs) ≡ length k
+pub learn-length : (gs : List Write) (k : Kinds) → length (learn k gs) ≡ length k
 learn-length [] k = refl
-learn-length (Give.Like v x ∷ gs) k = learn-length gs _ ∙ length-set k v _
-learn-length (Give.Float v ∷ gs) k = learn-length gs _ ∙ length-set k v _
+learn-length (Write.Like v x ∷ gs) k = learn-length gs _ ∙ length-set k v _
+learn-length (Write.Float v ∷ gs) k = learn-length gs _ ∙ length-set k v _
 
-all-up : (l : List Box) (k : Kinds) (gs : List Give) → AllWithin l k → AllWithin l (learn k gs)
+all-up : (l : List Box) (k : Kinds) (gs : List Write) → AllWithin l k → AllWithin l (learn k gs)
 all-up [] k gs h = tt
 all-up (b ∷ bs) k gs h = (λ n e. learn-up gs k n (h .0 n e), all-up bs k gs (h .1))
 
 -- ---- one item further
 
 module _ {names size : ℕ} {items : List Item} (ok : Accepted names size items) where
-  giving-act : (a : Act) (su : Names) (k : Kinds) → givesOk names (actGives a) ≡ true
-      → missing (has su) (actUses a) ≡ false → Within su k → Giving k (actGives a)
+  giving-act : (a : Act) (su : Names) (k : Kinds) → writesOk names (actWrites a) ≡ true
+      → missing (has su) (actReads a) ≡ false → Within su k → Giving k (actWrites a)
   giving-act (Act.Var v) su k g m w = tt
   giving-act (Act.Store v l c) su k g m w = (like-below ok v (Operand.Literal l) g, refl, tt)
   giving-act (Act.Copy a b) su k g m w = (like-below ok b (Operand.Name a) g, w a (not-false (has su a) m), tt)
@@ -119,11 +120,11 @@ module _ {names size : ℕ} {items : List Item} (ok : Accepted names size items)
   giving-act Act.CellOff su k g m w = tt
   giving-act Act.Abort su k g m w = tt
 
-  giving-head : (h : Head) (k : Kinds) → givesOk names (headGives h) ≡ true → Giving k (headGives h)
+  giving-head : (h : Head) (k : Kinds) → writesOk names (headWrites h) ≡ true → Giving k (headWrites h)
   giving-head (Head.If c) k g = tt
   giving-head (Head.Loop c) k g = tt
   giving-head (Head.Sweep w) k g = (
-    float-below ok (w .potential) (Give.Float (w .current) ∷ []) g,
+    float-below ok (w .potential) (Write.Float (w .current) ∷ []) g,
     (float-below ok (w .current) [] (and-l (ltb (w .current) names) (ltb (w .potential) names) g), tt),
   )
 
@@ -136,13 +137,14 @@ module _ {names size : ℕ} {items : List Item} (ok : Accepted names size items)
 
   module _ (i : ℕ) (su : Names) (p tg : Bool) (k : Kinds) where
     pub sure-after : (l : List Box) (x : Item) → itemOk names size x ≡ true
-        → missing (has (base (bare (state su l p tg)) x)) (uses x) ≡ false
-        → length k ≡ 32 → Within su k → AllWithin l k → Within ((after i (state su l p tg) x) .sure) (learn k (gives x))
+        → missing (has (base (bare (state su l p tg)) x)) (readsOf x) ≡ false
+        → length k ≡ 32 → Within su k → AllWithin l k
+        → Within ((after i (state su l p tg) x) .sure) (learn k (writesOf x))
     sure-after l (Item.Act a) g m e w v =
-        put-known (actGives a) su k e w (giving-act a su k (gives-ok ok (Item.Act a) g) m w)
+        put-known (actWrites a) su k e w (giving-act a su k (writes-ok ok (Item.Act a) g) m w)
     sure-after l (Item.Pack q) g m e w v = w
     sure-after l (Item.Open h) g m e w v =
-        put-known (headGives h) su k e w (giving-head h k (gives-ok ok (Item.Open h) g))
+        put-known (headWrites h) su k e w (giving-head h k (writes-ok ok (Item.Open h) g))
     sure-after [] (Item.Branch c) g m e w v = w
     sure-after (b ∷ bs) (Item.Branch c) g m e w v = v .0
     sure-after [] (Item.Close c) g m e w v = w
@@ -151,10 +153,10 @@ module _ {names size : ℕ} {items : List Item} (ok : Accepted names size items)
     sure-after l Item.Tag g m e w v = λ n h. not-nothing n h
 
     pub known-after : (l : List Box) (x : Item) → Within su k → AllWithin l k
-        → AllWithin ((after i (state su l p tg) x) .boxes) (learn k (gives x))
-    known-after l (Item.Act a) w v = all-up l k (actGives a) v
+        → AllWithin ((after i (state su l p tg) x) .boxes) (learn k (writesOf x))
+    known-after l (Item.Act a) w v = all-up l k (actWrites a) v
     known-after l (Item.Pack q) w v = v
-    known-after l (Item.Open h) w v = (λ n e. learn-up (headGives h) k n (w n e), all-up l k (headGives h) v)
+    known-after l (Item.Open h) w v = (λ n e. learn-up (headWrites h) k n (w n e), all-up l k (headWrites h) v)
     known-after [] (Item.Branch c) w v = v
     known-after (b ∷ bs) (Item.Branch c) w v = v
     known-after [] (Item.Close c) w v = v

@@ -8,7 +8,7 @@ use Rattle.argument.specs.declared.Refusal.{Refusal}
 use Rattle.argument.specs.declared.Refusal.the-variants as Refusal
 use Rattle.argument.specs.Refusal.{numberOf as formNumber}
 use Rattle.rules.proofs.Tight.{ruleOf}
-use Rattle.rules.specs.declared.Rule.the-variants as Rule
+use Rattle.rules.specs.declared.Refusal.the-variants as Rule
 use Rattle.machine.specs.declared.Steps.{Steps}
 use Rattle.machine.specs.declared.Ran.{Ran}
 use Rattle.machine.specs.Course.{Course, stepsOf, courseOf}

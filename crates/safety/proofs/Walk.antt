@@ -13,12 +13,13 @@ use Rattle.table.specs.declared.Close.{Close}
 use Rattle.table.specs.declared.Item.{Item}
 use Rattle.table.specs.declared.Item.the-variants as Item
 use Rattle.table.specs.declared.Known.the-variants as Known
-use Rattle.table.specs.declared.Give.{Give}
-use Rattle.table.specs.declared.Give.the-variants as Give
+use Rattle.table.specs.declared.Write.{Write}
+use Rattle.table.specs.declared.Write.the-variants as Write
 use Rattle.table.specs.Item.{isOpen, isTag, fits}
-use Rattle.table.specs.Uses.{uses, gives, Kinds, kindAt, wrong, wrongGive, Names, has, missing, breaksOrder, lowest}
-use Rattle.table.specs.Shape.{operandOk, wantsOk, givesOk, ownOk, itemOk, itemsOk}
-use Rattle.rules.specs.Check.{learn, kindsOf, State, begin, isEmpty, base, misplaced, refusals, refusalsAtEnd, Verdict}
+use Rattle.table.specs.ReadWrite.{readsOf, writesOf, Kinds, kindAt, wrong, wrongWrite, Names, has, missing}
+use Rattle.table.specs.ReadWrite.{breaksOrder, lowest}
+use Rattle.table.specs.Shape.{operandOk, readsOk, writesOk, ownOk, itemOk, itemsOk}
+use Rattle.rules.specs.Check.{learn, kindsOf, Held, begin, isEmpty, base, misplaced, refusals, refusalsAtEnd, Verdict}
 use Rattle.rules.specs.Check.{accepted, orGo, walk}
 use Rattle.rules.proofs.Placed.{Box, Placed, atStart, plains, bare, length-plains, after, same-walk}
 use Rattle.rules.proofs.Writes.{learns}
@@ -42,14 +43,14 @@ state su l p tg = record { sure = su; boxes = l; packed = p; tagged = tg }
 pub data Reach (items : List Item) : ℕ → Placed → Kinds → List Item → Type 0 where
   outset : Reach items 0 atStart (replicate 32 Known.Unknown) items
   more : {i : ℕ} {s : Placed} {k : Kinds} {x : Item} {xs : List Item} → Reach items i s k (x ∷ xs)
-      → Reach items (suc i) (after i s x) (learn k (gives x)) xs
+      → Reach items (suc i) (after i s x) (learn k (writesOf x)) xs
 
 -- ---- an accepted item passes every test
 
 pub record Clean (k : Kinds) (s : Placed) (x : Item) : Type 0 where
-  pub kinds : wrong (kindAt k) (uses x) ≡ false
-  pub gifts : wrongGive (kindAt k) (gives x) ≡ false
-  pub there : missing (has (base (bare s) x)) (uses x) ≡ false
+  pub kinds : wrong (kindAt k) (readsOf x) ≡ false
+  pub gifts : wrongWrite (kindAt k) (writesOf x) ≡ false
+  pub there : missing (has (base (bare s) x)) (readsOf x) ≡ false
   pub placed : misplaced x (plains (s .boxes)) ≡ false
   pub eighth : (isOpen x && leb 8 (length (s .boxes))) ≡ false
   pub packed : breaksOrder x (s .packed) ≡ false
@@ -64,8 +65,8 @@ is-clean k s x e₀ =
     let f = skip 22 _ _ (d .1) in
     let g = skip 23 _ _ (f .1) in
     record {
-      kinds = or-l (wrong (kindAt k) (uses x)) (wrongGive (kindAt k) (gives x)) (a .0);
-      gifts = or-r (wrong (kindAt k) (uses x)) (wrongGive (kindAt k) (gives x)) (a .0);
+      kinds = or-l (wrong (kindAt k) (readsOf x)) (wrongWrite (kindAt k) (writesOf x)) (a .0);
+      gifts = or-r (wrong (kindAt k) (readsOf x)) (wrongWrite (kindAt k) (writesOf x)) (a .0);
       there = b .0;
       placed = c .0;
       eighth = ap (λ (n : ℕ). isOpen x && leb 8 n) (sym (length-plains (s .boxes))) ∙ d .0;
@@ -97,7 +98,7 @@ module _ {names size : ℕ} {items : List Item} (ok : Accepted names size items)
       → walk (textKinds items) i (bare s) xs ≡ accepted
   reach-walk outset = ok .passed
   reach-walk (more {i} {s} {k} {x} {xs} r) =
-      ap (λ (z : State). walk (textKinds items) (suc i) z xs) (same-walk i s x)
+      ap (λ (z : Held). walk (textKinds items) (suc i) z xs) (same-walk i s x)
       ∙ (orGo-accepted (lowest (refusals (textKinds items) (bare s) x)) i _ (reach-walk r)) .1
 
   pub clean : {i : ℕ} {s : Placed} {k : Kinds} {x : Item} {xs : List Item} → Reach items i s k (x ∷ xs)
@@ -129,11 +130,11 @@ module _ {names size : ℕ} {items : List Item} (ok : Accepted names size items)
   name-below : (n : ℕ) → ltb n names ≡ true → n < 32
   name-below n h = omega (arith, ltb-true n names h, ok .few)
 
-  pub gives-ok : (x : Item) → itemOk names size x ≡ true → givesOk names (gives x) ≡ true
-  gives-ok x h = and-r (ownOk names size x && wantsOk names (uses x)) (givesOk names (gives x)) h
+  pub writes-ok : (x : Item) → itemOk names size x ≡ true → writesOk names (writesOf x) ≡ true
+  writes-ok x h = and-r (ownOk names size x && readsOk names (readsOf x)) (writesOk names (writesOf x)) h
 
-  pub like-below : (v : ℕ) (x : Operand) → givesOk names (Give.Like v x ∷ []) ≡ true → v < 32
+  pub like-below : (v : ℕ) (x : Operand) → writesOk names (Write.Like v x ∷ []) ≡ true → v < 32
   like-below v x h = name-below v (and-l (ltb v names) (operandOk names x) h)
 
-  pub float-below : (v : ℕ) (gs : List Give) → givesOk names (Give.Float v ∷ gs) ≡ true → v < 32
-  float-below v gs h = name-below v (and-r (givesOk names gs) (ltb v names) h)
+  pub float-below : (v : ℕ) (gs : List Write) → writesOk names (Write.Float v ∷ gs) ≡ true → v < 32
+  float-below v gs h = name-below v (and-r (writesOk names gs) (ltb v names) h)

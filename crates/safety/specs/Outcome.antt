@@ -6,16 +6,16 @@ use mathlib.Core.Bool.{true, cond}
 use mathlib.Core.List.{List, [], _++_}
 use lib.Dec.{eqb}
 use lib.ListN.{length}
-use Rattle.table.specs.declared.Script.{Script}
+use Rattle.table.specs.declared.Table.{Table}
 use Rattle.argument.specs.Refusal.{numberOf as formNumber}
-use Rattle.script.specs.Load.{loaded}
+use Rattle.loader.specs.Load.{loaded}
 use Rattle.rules.specs.Check.{Verdict, accepted, refused, verdict}
 use Rattle.rules.specs.Verdict.{numberOf as ruleNumber}
 use Rattle.state.specs.declared.Control.{Control}
 use Rattle.state.specs.declared.Offer.{Offer}
 use Rattle.machine.specs.declared.Ran.{Ran}
 use Rattle.state.specs.State.{fresh}
-use Rattle.state.specs.Meaning.{runOf, Neat}
+use Rattle.state.specs.Meaning.{stateOf, Neat}
 use Rattle.machine.specs.Course.{Course, runFrom, courseOf, BlankRun}
 use Rattle.machine.specs.Parts.{followed, Call, Called, stepsOfAll, courseOfAll}
 use Rattle.safety.specs.Safety.{Promises, allAllowed}
@@ -41,7 +41,7 @@ abbrev pub judged : Verdict → Course → Outcome
 judged accepted c = record { number = 0; line = 0; course = c }
 judged (refused n k) c = refusal n k
 
-unfoldable pub checkedOutcome : ℕ → Script → List (Control × Offer) → Outcome
+unfoldable pub checkedOutcome : ℕ → Table → List (Control × Offer) → Outcome
 checkedOutcome size t ps = judged (verdict size t) (runFrom size t fresh ps)
 
 unfoldable pub outcome : List ℕ → List (Control × Offer) → Outcome
@@ -81,11 +81,11 @@ pub record ExactOutcome (text : List ℕ) (ps : List (Control × Offer)) (r : Ch
 -- from the state in r and then each time from the state that it handed back: all of it is one run from fresh, and
 -- demand 3 holds of every step
 pub record GoesOn (text : List ℕ) (ps : List (Control × Offer)) (r : Checked) (calls : List Call) : Type 0 where
-  pub whole : followed (courseOf (r .ran)) (courseOfAll (runOf (r .ran .state)) calls)
+  pub whole : followed (courseOf (r .ran)) (courseOfAll (stateOf (r .ran .state)) calls)
       ≡ runFrom (length text) ((loaded text) .table) fresh (ps ++ stepsOfAll calls)
   pub promises : Promises (length text) ((loaded text) .table) fresh (ps ++ stepsOfAll calls)
-  pub onward : Promises (length text) ((loaded text) .table) (runOf (r .ran .state)) (stepsOfAll calls)
-  pub allowed : allAllowed (courseOfAll (runOf (r .ran .state)) calls .answers) ≡ true
+  pub onward : Promises (length text) ((loaded text) .table) (stateOf (r .ran .state)) (stepsOfAll calls)
+  pub allowed : allAllowed (courseOfAll (stateOf (r .ran .state)) calls .answers) ≡ true
 
 abbrev pub OnAndOn : Type 0
 OnAndOn = (text : List ℕ) (ps : List (Control × Offer)) (r : Checked) (calls : List Call)

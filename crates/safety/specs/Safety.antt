@@ -10,16 +10,17 @@ use mathlib.Core.List.{List, [], _∷_, _++_}
 use lib.Dec.{eqb}
 use lib.ListN.{length, replicate, drop}
 use Rattle.table.specs.declared.Item.{Item}
-use Rattle.table.specs.declared.Script.{Script}
+use Rattle.table.specs.declared.Table.{Table}
 use Rattle.table.specs.Shape.{itemsOf}
-use Rattle.script.specs.Load.{loaded}
+use Rattle.loader.specs.Load.{loaded}
 use Rattle.rules.specs.Check.{accepted, refused, verdict}
 use Rattle.state.specs.declared.Control.{Control}
 use Rattle.state.specs.declared.Offer.{Offer}
-use Rattle.state.specs.State.{Status, live, finishedRun, stoppedRun, faultRun, code0028, code0010, Run, Answer, running}
+use Rattle.state.specs.State.{Status, live, finishedRun, stoppedRun, faultRun, code0028, code0010, State, Answer}
+use Rattle.state.specs.State.{running}
 use Rattle.state.specs.State.{waiting, finished, stopped, fault, refuse, Step, fresh, Wanted, wantsNothing, wantedBy}
 use Rattle.state.specs.State.{Meets, ready, short, amiss, meets}
-use Rattle.machine.specs.Machine.{abortDue, told, step}
+use Rattle.steps.specs.Machine.{abortDue, told, step}
 use Rattle.machine.specs.Course.{runFrom}
 
 -- ---- an offer of the wrong sort
@@ -30,7 +31,7 @@ wantedFrom [] = wantsNothing
 wantedFrom (x ∷ xs) = wantedBy x
 
 -- a step in which an abort takes effect wants nothing
-abbrev pub wantedAt : List Item → Run → Wanted
+abbrev pub wantedAt : List Item → State → Wanted
 wantedAt xs m = cond (abortDue xs m) wantsNothing (wantedFrom (drop (m .at) xs))
 
 -- of the wrong sort: something is offered, and it is not what is wanted; nothing where something is wanted waits
@@ -40,7 +41,7 @@ isAmiss short = false
 isAmiss amiss = true
 
 -- the run is first told the control: a Z may make an abort due
-abbrev pub wrongSort : List Item → Run → Control → Offer → Bool
+abbrev pub wrongSort : List Item → State → Control → Offer → Bool
 wrongSort xs m c o = isAmiss (meets (wantedAt xs (told xs m c)) o)
 
 -- ---- the answers and states of an accepted script
@@ -65,7 +66,7 @@ unbroken (stoppedRun n) = isCode n
 unbroken (faultRun n) = false
 
 -- what is promised of a step s of the run m
-pub record Promise (items : List Item) (m : Run) (c : Control) (o : Offer) (s : Step) : Type 0 where
+pub record Promise (items : List Item) (m : State) (c : Control) (o : Offer) (s : Step) : Type 0 where
   pub answer : allowed (s .answer) ≡ true
   pub state : unbroken (s .next .status) ≡ true
   -- until the run ends, an offer of the wrong sort is refused by 31, hands out nothing and changes nothing
@@ -76,13 +77,13 @@ pub record Promise (items : List Item) (m : Run) (c : Control) (o : Offer) (s : 
 
 -- of every step of a run, one for each control and offer: the length of the script's bytes, the table, and the run so
 -- far
-abbrev pub Promises : ℕ → Script → Run → List (Control × Offer) → Type 0
+abbrev pub Promises : ℕ → Table → State → List (Control × Offer) → Type 0
 Promises size t m [] = Unit {0}
 Promises size t m (p ∷ ps) = let s =
     step size t m (p .0) (p .1) in Promise (itemsOf t) m (p .0) (p .1) s × Promises size t (s .next) ps
 
 -- demand 3 of a table, from fresh
-abbrev pub Safe : ℕ → Script → Type 0
+abbrev pub Safe : ℕ → Table → Type 0
 Safe size t = (ps : List (Control × Offer)) → Promises size t fresh ps
 
 -- and of a script's bytes: taken by the loader, accepted by the checker
@@ -91,7 +92,7 @@ SafeText text = (loaded text) .number ≡ 0 → verdict (length text) ((loaded t
     → Safe (length text) ((loaded text) .table)
 
 -- started fresh, after any steps ps, stepping on with qs keeps it too: a run may be taken in as many parts as one likes
-abbrev pub SafeOnward : ℕ → Script → Type 0
+abbrev pub SafeOnward : ℕ → Table → Type 0
 SafeOnward size t = (ps qs : List (Control × Offer)) → Promises size t (runFrom size t fresh ps .last) qs
 
 abbrev pub SafeTextOnward : List ℕ → Type 0

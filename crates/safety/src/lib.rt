@@ -4,11 +4,10 @@ use argument::Refusal;
 use machine::Ran;
 use machine::Said;
 use machine::Steps;
-use rules::Rule;
 use state::Answer;
 use state::Thing;
 use state::What;
-use table::Script;
+use table::Table;
 ghost use mathlib.Core.Path.{_≡_};
 ghost use lib.ListN.{length};
 ghost use Rattle.machine.specs.Course.{stepsOf, courseOf};
@@ -19,7 +18,7 @@ ghost use Rattle.safety.specs.Outcome.{numberOf, lineOf, meaning};
 pub enum Judged {
     Accepted,
     Form(Refusal, usize),
-    Rules(Rule, usize),
+    Rules(rules::Refusal, usize),
 }
 
 // No step is taken where the text is refused.
@@ -59,20 +58,20 @@ fn refused(judged: Judged) -> Checked
     }
 }
 
-fn check_and_run(text: &[u8], script: Script, steps: Steps) -> Checked
-    ensures { λ r. ⌜ (meaning r ≡ checkedOutcome (length (now (text .entry))) script (stepsOf steps))
+fn check_and_run(text: &[u8], table: Table, steps: Steps) -> Checked
+    ensures { λ r. ⌜ (meaning r ≡ checkedOutcome (length (now (text .entry))) table (stepsOf steps))
         × Fixed (r .ran) ⌝ }
 {
-    let verdict = rules::check(text, script);
+    let verdict = rules::check(text, table);
     match verdict {
         rules::Verdict::Accepted => {
-            let ran = machine::run(text, script, state::fresh(), steps, steps.count);
+            let ran = machine::run(text, table, state::fresh(), steps, steps.count);
             Checked {
                 judged: Judged::Accepted,
                 ran: ran,
             }
         }
-        rules::Verdict::Refused(rule, line) => refused(Judged::Rules(rule, line)),
+        rules::Verdict::Refused(refusal, line) => refused(Judged::Rules(refusal, line)),
     }
 }
 
@@ -80,13 +79,13 @@ fn check_and_run(text: &[u8], script: Script, steps: Steps) -> Checked
 pub fn run(text: &[u8], steps: Steps) -> Checked
     ensures { λ r. ⌜ ExactOutcome (now (text .entry)) (stepsOf steps) r ⌝ }
 {
-    let loaded = script::load(text);
+    let loaded = loader::load(text);
     let answer = loaded.answer;
     match answer {
-        script::Answer::Accepted => {
-            let script = loaded.script;
-            check_and_run(text, script, steps)
+        loader::Answer::Accepted => {
+            let table = loaded.table;
+            check_and_run(text, table, steps)
         }
-        script::Answer::Refused(why, line) => refused(Judged::Form(why, line)),
+        loader::Answer::Refused(why, line) => refused(Judged::Form(why, line)),
     }
 }

@@ -24,9 +24,9 @@ use table::Head;
 use table::Item;
 use table::Operand;
 use table::Pack;
-use table::Script;
 use table::Slot;
 use table::Sweep;
+use table::Table;
 use table::Text;
 use value::Comparison;
 use value::Operation;
@@ -43,7 +43,7 @@ fn name(s: &[u8], at: usize) -> usize {
     number(s, past(s, at, 1))
 }
 
-fn kind(s: &[u8], at: usize) -> u16 {
+fn letters(s: &[u8], at: usize) -> u16 {
     hex4(s, past(s, at, 1))
 }
 
@@ -157,13 +157,13 @@ fn act(k: usize, s: &[u8], a: usize) -> Act {
     let c = next_word(s, b);
     match k {
         0 => Act::Var(name(s, a)),
-        1 => Act::Store(name(s, a), value(s, b), kind(s, c)),
+        1 => Act::Store(name(s, a), value(s, b), letters(s, c)),
         2 => Act::Copy(name(s, a), name(s, b)),
         3 => Act::Calc(Operation::Add, name(s, a), operand(s, b)),
         4 => Act::Calc(Operation::Sub, name(s, a), operand(s, b)),
         5 => Act::Calc(Operation::Mul, name(s, a), operand(s, b)),
         6 => Act::Calc(Operation::Div, name(s, a), operand(s, b)),
-        7 => Act::Meas(operand(s, a), name(s, b), kind(s, c)),
+        7 => Act::Meas(operand(s, a), name(s, b), letters(s, c)),
         8 => Act::TimerGet(name(s, a)),
         9 => Act::SendString(text_at(s, a)),
         10 => Act::Wait(operand(s, a)),
@@ -219,7 +219,7 @@ fn slot_at(s: &[u8], at: usize) -> Slot {
 }
 
 // The items stand in the lines behind `items=`.
-pub fn table_at(s: &[u8]) -> Script {
+pub fn table_at(s: &[u8]) -> Table {
     let mut items = [Slot {
         item: Item::Break,
         line: 0,
@@ -233,7 +233,7 @@ pub fn table_at(s: &[u8]) -> Script {
         at = next_line(s, at);
         i += 1;
     }
-    Script {
+    Table {
         items: items,
         count: count,
         names: number_of(s, b"names="),
@@ -248,9 +248,9 @@ fn put_name(out: &mut [u8], at: usize, n: usize) -> usize {
     put_number(out, at, n)
 }
 
-fn put_kind(out: &mut [u8], at: usize, kind: u16) -> usize {
+fn put_letters(out: &mut [u8], at: usize, letters: u16) -> usize {
     let at = put(out, at, b" t");
-    put_hex4(out, at, kind)
+    put_hex4(out, at, letters)
 }
 
 fn put_operand(out: &mut [u8], at: usize, x: Operand) -> usize {
@@ -317,11 +317,11 @@ fn put_act(out: &mut [u8], at: usize, act: Act) -> usize {
             let at = put(out, at, b"var");
             put_name(out, at, n)
         }
-        Act::Store(n, value, kind) => {
+        Act::Store(n, value, letters) => {
             let at = put(out, at, b"store_var");
             let at = put_name(out, at, n);
             let at = put_operand(out, at, Operand::Literal(value));
-            put_kind(out, at, kind)
+            put_letters(out, at, letters)
         }
         Act::Copy(from, to) => {
             let at = put(out, at, b"copy_var");
@@ -333,11 +333,11 @@ fn put_act(out: &mut [u8], at: usize, act: Act) -> usize {
             let at = put_name(out, at, n);
             put_operand(out, at, x)
         }
-        Act::Meas(x, n, kind) => {
+        Act::Meas(x, n, letters) => {
             let at = put(out, at, b"meas");
             let at = put_operand(out, at, x);
             let at = put_name(out, at, n);
-            put_kind(out, at, kind)
+            put_letters(out, at, letters)
         }
         Act::TimerGet(n) => {
             let at = put(out, at, b"timer_get");
@@ -432,21 +432,21 @@ fn put_slot(out: &mut [u8], at: usize, slot: Slot) -> usize {
     put(out, at, b"\n")
 }
 
-fn put_items(out: &mut [u8], at: usize, script: Script) -> usize {
-    let count = lesser(script.count, ITEMS);
+fn put_items(out: &mut [u8], at: usize, table: Table) -> usize {
+    let count = lesser(table.count, ITEMS);
     let mut at = at;
     let mut i: usize = 0;
     while i < count {
-        let slot = script.items[i];
+        let slot = table.items[i];
         at = put_slot(out, at, slot);
         i += 1;
     }
     at
 }
 
-pub fn put_table(out: &mut [u8], at: usize, script: Script) -> usize {
-    let at = put_line(out, at, b"names=", script.names);
-    let at = put_line(out, at, b"end=", script.end);
-    let at = put_line(out, at, b"items=", script.count);
-    put_items(out, at, script)
+pub fn put_table(out: &mut [u8], at: usize, table: Table) -> usize {
+    let at = put_line(out, at, b"names=", table.names);
+    let at = put_line(out, at, b"end=", table.end);
+    let at = put_line(out, at, b"items=", table.count);
+    put_items(out, at, table)
 }

@@ -11,7 +11,7 @@ use lib.ListN.{length, getD, set, drop, List·getD-eq-default}
 use lib.Pow.{shr-shr, pow-lt}
 use lib.Bits.{bitAnd, bitOr, and-step, or-step, or-zero-r, shifted-half, shifted-even}
 use borrow.Author.Tests.{eq-eqb, ne-eqb, eqb-true, eqb-false}
-use Rattle.table.specs.Uses.{Names, has}
+use Rattle.table.specs.ReadWrite.{Names, has}
 use Rattle.sets.specs.Names.{both, either, outside, bitsOf, namesOf, nothing, everything}
 
 pub none-there : namesOf 0 ≡ nothing

@@ -9,14 +9,14 @@ use lib.Dec.{ltb}
 use lib.ListN.{length, set, replicate, length-set}
 use borrow.Author.Tests.{ltb-true}
 use Rattle.laws.proofs.Bools.{and-l, and-r}
-use Rattle.table.specs.Uses.{Names, has, gone, missing}
-use Rattle.table.specs.Shape.{operandOk, wantsOk}
+use Rattle.table.specs.ReadWrite.{Names, has, gone, missing}
+use Rattle.table.specs.Shape.{operandOk, readsOk}
 use Rattle.table.specs.declared.Operand.{Operand}
 use Rattle.table.specs.declared.Operand.the-variants as Operand
-use Rattle.table.specs.declared.Want.{Want}
-use Rattle.table.specs.declared.Want.the-variants as Want
-use Rattle.table.specs.declared.Give.{Give}
-use Rattle.table.specs.declared.Give.the-variants as Give
+use Rattle.table.specs.declared.Read.{Read}
+use Rattle.table.specs.declared.Read.the-variants as Read
+use Rattle.table.specs.declared.Write.{Write}
+use Rattle.table.specs.declared.Write.the-variants as Write
 use Rattle.sets.specs.Names.{nothing, either, outside, ask, asks, put}
 
 -- ---- written
@@ -31,11 +31,11 @@ set-either (a ∷ s) (b ∷ t) zero e = ap (λ (x : Bool). x ∷ either s t) (sy
     or-true false = refl
 set-either (a ∷ s) (b ∷ t) (suc n) e = ap (λ (l : Names). (a || b) ∷ l) (set-either s t n (omega arith))
 
-put-more : (s t : Names) (gs : List Give) → length s ≡ length t → put (either s t) gs ≡ either s (put t gs)
+put-more : (s t : Names) (gs : List Write) → length s ≡ length t → put (either s t) gs ≡ either s (put t gs)
 put-more s t [] e = refl
-put-more s t (Give.Like n x ∷ gs) e =
+put-more s t (Write.Like n x ∷ gs) e =
     ap (λ (l : Names). put l gs) (set-either s t n e) ∙ put-more s (set t n true) gs (e ∙ sym (length-set t n true))
-put-more s t (Give.Float n ∷ gs) e =
+put-more s t (Write.Float n ∷ gs) e =
     ap (λ (l : Names). put l gs) (set-either s t n e) ∙ put-more s (set t n true) gs (e ∙ sym (length-set t n true))
 
 either-none : (m : ℕ) (s : Names) → length s ≡ m → either s (replicate m false) ≡ s
@@ -45,7 +45,7 @@ either-none (suc m) [] e = absurd (omega arith)
 either-none (suc m) (a ∷ s) e = rw (or-false a, either-none m s (omega arith))
 
 -- what is written to a set is the set and what is written to none
-pub put-either : (s : Names) (gs : List Give) → length s ≡ 32 → either s (put nothing gs) ≡ put s gs
+pub put-either : (s : Names) (gs : List Write) → length s ≡ 32 → either s (put nothing gs) ≡ put s gs
 put-either s gs e = sym (put-more s nothing gs e) ∙ ap (λ (l : Names). put l gs) (either-none 32 s e)
 
 -- ---- read
@@ -107,32 +107,32 @@ module _ (names : ℕ) (s : Names) (few : names ≤ length s) where
   outside-ask t (Operand.Name n) e o = outside-set t s n (omega (arith, ltb-true n names o)) e
   outside-ask t (Operand.Literal l) e o = sym (or-false (outside t s))
 
-  outside-asks : (t : Names) (ws : List Want) → length t ≡ length s → wantsOk names ws ≡ true
+  outside-asks : (t : Names) (ws : List Read) → length t ≡ length s → readsOk names ws ≡ true
       → outside (asks t ws) s ≡ (outside t s || missing (has s) ws)
   outside-asks t [] e o = sym (or-false (outside t s))
-  outside-asks t (Want.Any x ∷ ws) e o =
-      outside-asks (ask t x) ws (length-ask t x ∙ e) (and-l (wantsOk names ws) (operandOk names x) o)
+  outside-asks t (Read.Any x ∷ ws) e o =
+      outside-asks (ask t x) ws (length-ask t x ∙ e) (and-l (readsOk names ws) (operandOk names x) o)
       ∙ ap (λ (b : Bool). b || missing (has s) ws)
-      (outside-ask t x e (and-r (wantsOk names ws) (operandOk names x) o))
+      (outside-ask t x e (and-r (readsOk names ws) (operandOk names x) o))
       ∙ swap (outside t s) (gone (has s) x) (missing (has s) ws)
-  outside-asks t (Want.Alike x y ∷ ws) e o =
+  outside-asks t (Read.Alike x y ∷ ws) e o =
       let f : length (ask t x) ≡ length s = length-ask t x ∙ e in
-      let rest : wantsOk names ws ≡ true = and-l (wantsOk names ws) (operandOk names x && operandOk names y) o in
-      let two = and-r (wantsOk names ws) (operandOk names x && operandOk names y) o in
+      let rest : readsOk names ws ≡ true = and-l (readsOk names ws) (operandOk names x && operandOk names y) o in
+      let two = and-r (readsOk names ws) (operandOk names x && operandOk names y) o in
       let one : operandOk names x ≡ true = and-l (operandOk names x) (operandOk names y) two in
       let other : operandOk names y ≡ true = and-r (operandOk names x) (operandOk names y) two in
       outside-asks (ask (ask t x) y) ws (length-ask (ask t x) y ∙ f) rest
       ∙ ap (λ (b : Bool). b || missing (has s) ws) (outside-ask (ask t x) y f other)
       ∙ ap (λ (b : Bool). b || gone (has s) y || missing (has s) ws) (outside-ask t x e one)
       ∙ swap-two (outside t s) (gone (has s) x) (gone (has s) y) (missing (has s) ws)
-  outside-asks t (Want.Float x ∷ ws) e o =
-      outside-asks (ask t x) ws (length-ask t x ∙ e) (and-l (wantsOk names ws) (operandOk names x) o)
+  outside-asks t (Read.Float x ∷ ws) e o =
+      outside-asks (ask t x) ws (length-ask t x ∙ e) (and-l (readsOk names ws) (operandOk names x) o)
       ∙ ap (λ (b : Bool). b || missing (has s) ws)
-      (outside-ask t x e (and-r (wantsOk names ws) (operandOk names x) o))
+      (outside-ask t x e (and-r (readsOk names ws) (operandOk names x) o))
       ∙ swap (outside t s) (gone (has s) x) (missing (has s) ws)
 
 -- a name is read that is not among those that are there
-pub read-outside : (names : ℕ) (s : Names) (ws : List Want) → names ≤ 32 → length s ≡ 32 → wantsOk names ws ≡ true
+pub read-outside : (names : ℕ) (s : Names) (ws : List Read) → names ≤ 32 → length s ≡ 32 → readsOk names ws ≡ true
     → outside (asks nothing ws) s ≡ missing (has s) ws
 read-outside names s ws h e o =
     outside-asks names s (omega arith) nothing ws (sym e) o

@@ -4,10 +4,10 @@ use Prim.Native.Nat.{ℕ, _<_, _^_}
 use mathlib.Core.Path.{_≡_, sym, _∙_}
 use mathlib.Core.Bool.{Bool, true}
 use lib.ListN.{set}
-use Rattle.table.specs.Uses.{Names, has}
-use Rattle.table.specs.Code.{allWants, allGives}
-use Rattle.table.specs.declared.Gives.{Gives}
-use Rattle.table.specs.declared.Wants.{Wants}
+use Rattle.table.specs.ReadWrite.{Names, has}
+use Rattle.table.specs.Code.{allReads, allWrites}
+use Rattle.table.specs.declared.Writes.{Writes}
+use Rattle.table.specs.declared.Reads.{Reads}
 use Rattle.sets.specs.Names.{nothing, everything, both, either, outside, asks, put, namesOf}
 use Rattle.sets.proofs.Bits.{one-word}
 
@@ -40,10 +40,10 @@ pub only-any-outside : (a b : ℕ) (x y : Bool)
     → x ≡ outside (namesOf a) (namesOf b) → y ≡ outside (namesOf a) (namesOf b) → x ≡ y
 only-any-outside a b x y p q = p ∙ sym q
 
-pub only-with-read : (w : ℕ) (ws : Wants) (x y : ℕ) → x < 2 ^ 32 → y < 2 ^ 32
-    → namesOf x ≡ asks (namesOf w) (allWants ws) → namesOf y ≡ asks (namesOf w) (allWants ws) → x ≡ y
+pub only-with-read : (w : ℕ) (ws : Reads) (x y : ℕ) → x < 2 ^ 32 → y < 2 ^ 32
+    → namesOf x ≡ asks (namesOf w) (allReads ws) → namesOf y ≡ asks (namesOf w) (allReads ws) → x ≡ y
 only-with-read w ws = only-word
 
-pub only-with-written : (w : ℕ) (gs : Gives) (x y : ℕ) → x < 2 ^ 32 → y < 2 ^ 32
-    → namesOf x ≡ put (namesOf w) (allGives gs) → namesOf y ≡ put (namesOf w) (allGives gs) → x ≡ y
+pub only-with-written : (w : ℕ) (gs : Writes) (x y : ℕ) → x < 2 ^ 32 → y < 2 ^ 32
+    → namesOf x ≡ put (namesOf w) (allWrites gs) → namesOf y ≡ put (namesOf w) (allWrites gs) → x ≡ y
 only-with-written w gs = only-word

@@ -4,13 +4,13 @@ use mathlib.Core.Bool.{Bool, true, false, not, _&&_, _||_}
 use mathlib.Core.List.{List, [], _∷_}
 use lib.Dec.{eqb}
 use lib.ListN.{set, replicate}
-use Rattle.table.specs.Uses.{Names}
+use Rattle.table.specs.ReadWrite.{Names}
 use Rattle.table.specs.declared.Operand.{Operand}
 use Rattle.table.specs.declared.Operand.the-variants as Operand
-use Rattle.table.specs.declared.Want.{Want}
-use Rattle.table.specs.declared.Want.the-variants as Want
-use Rattle.table.specs.declared.Give.{Give}
-use Rattle.table.specs.declared.Give.the-variants as Give
+use Rattle.table.specs.declared.Read.{Read}
+use Rattle.table.specs.declared.Read.the-variants as Read
+use Rattle.table.specs.declared.Write.{Write}
+use Rattle.table.specs.declared.Write.the-variants as Write
 
 abbrev pub nothing : Names
 nothing = replicate 32 false
@@ -39,17 +39,17 @@ abbrev pub ask : Names → Operand → Names
 ask s (Operand.Name n) = set s n true
 ask s (Operand.Literal l) = s
 
-abbrev pub asks : Names → List Want → Names
+abbrev pub asks : Names → List Read → Names
 asks s [] = s
-asks s (Want.Any x ∷ ws) = asks (ask s x) ws
-asks s (Want.Alike x y ∷ ws) = asks (ask (ask s x) y) ws
-asks s (Want.Float x ∷ ws) = asks (ask s x) ws
+asks s (Read.Any x ∷ ws) = asks (ask s x) ws
+asks s (Read.Alike x y ∷ ws) = asks (ask (ask s x) y) ws
+asks s (Read.Float x ∷ ws) = asks (ask s x) ws
 
 -- the names of the set and those that are written
-abbrev pub put : Names → List Give → Names
+abbrev pub put : Names → List Write → Names
 put s [] = s
-put s (Give.Like n x ∷ gs) = put (set s n true) gs
-put s (Give.Float n ∷ gs) = put (set s n true) gs
+put s (Write.Like n x ∷ gs) = put (set s n true) gs
+put s (Write.Float n ∷ gs) = put (set s n true) gs
 
 -- the lowest n bits of a word, the lowest first
 unfoldable pub bitsOf : ℕ → ℕ → Names

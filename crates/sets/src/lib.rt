@@ -3,14 +3,14 @@ ghost use mathlib.Core.Path.{_≡_};
 ghost use mathlib.Core.Bool.{true};
 ghost use mathlib.Core.List.{[], _∷_};
 ghost use lib.ListN.{set};
-ghost use Rattle.table.specs.Uses.{has};
-ghost use Rattle.table.specs.Code.{allWants, allGives};
+ghost use Rattle.table.specs.ReadWrite.{has};
+ghost use Rattle.table.specs.Code.{allReads, allWrites};
 ghost use Rattle.sets.specs.Names.{nothing, everything, both, either, outside, ask, asks, put, namesOf};
-use table::Give;
-use table::Gives;
 use table::Operand;
-use table::Want;
-use table::Wants;
+use table::Read;
+use table::Reads;
+use table::Write;
+use table::Writes;
 
 const NAMES: usize = 32;
 
@@ -84,39 +84,39 @@ fn with_operand(names: u32, x: Operand) -> u32
     }
 }
 
-fn with_want(names: u32, want: Want) -> u32
-    ensures { λ r. ⌜ namesOf r ≡ asks (namesOf names) (want ∷ []) ⌝ }
+fn with_one_read(names: u32, read: Read) -> u32
+    ensures { λ r. ⌜ namesOf r ≡ asks (namesOf names) (read ∷ []) ⌝ }
 {
-    match want {
-        Want::Any(x) => with_operand(names, x),
-        Want::Alike(x, y) => with_operand(with_operand(names, x), y),
-        Want::Float(x) => with_operand(names, x),
+    match read {
+        Read::Any(x) => with_operand(names, x),
+        Read::Alike(x, y) => with_operand(with_operand(names, x), y),
+        Read::Float(x) => with_operand(names, x),
     }
 }
 
 // The names of the set and those that are read.
-pub fn with_read(names: u32, wants: Wants) -> u32
-    ensures { λ r. ⌜ namesOf r ≡ asks (namesOf names) (allWants wants) ⌝ }
+pub fn with_read(names: u32, reads: Reads) -> u32
+    ensures { λ r. ⌜ namesOf r ≡ asks (namesOf names) (allReads reads) ⌝ }
 {
-    match wants {
-        Wants::Nothing => names,
-        Wants::One(w) => with_want(names, w),
-        Wants::FourFloats(a, b, c, d) => {
+    match reads {
+        Reads::Nothing => names,
+        Reads::One(w) => with_one_read(names, w),
+        Reads::FourFloats(a, b, c, d) => {
             with_operand(with_operand(with_operand(with_operand(names, a), b), c), d)
         }
     }
 }
 
 // The names of the set and those that are written.
-pub fn with_written(names: u32, gives: Gives) -> u32
-    ensures { λ r. ⌜ namesOf r ≡ put (namesOf names) (allGives gives) ⌝ }
+pub fn with_written(names: u32, writes: Writes) -> u32
+    ensures { λ r. ⌜ namesOf r ≡ put (namesOf names) (allWrites writes) ⌝ }
 {
-    match gives {
-        Gives::Nothing => names,
-        Gives::One(g) => match g {
-            Give::Like(n, _) => with_name(names, n),
-            Give::Float(n) => with_name(names, n),
+    match writes {
+        Writes::Nothing => names,
+        Writes::One(g) => match g {
+            Write::Like(n, _) => with_name(names, n),
+            Write::Float(n) => with_name(names, n),
         },
-        Gives::TwoFloats(a, b) => with_name(with_name(names, a), b),
+        Writes::TwoFloats(a, b) => with_name(with_name(names, a), b),
     }
 }

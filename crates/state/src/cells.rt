@@ -1,7 +1,7 @@
 // What the names hold.
 ghost use mathlib.Core.Path.{_≡_};
 ghost use Rattle.state.specs.State.{cellValue, cellType, cellOk, cellsOk};
-ghost use Rattle.state.specs.Meaning.{runOf};
+ghost use Rattle.state.specs.Meaning.{stateOf};
 use super::Cell;
 use super::State;
 use value::Value;
@@ -40,7 +40,7 @@ fn cell_ok(c: Cell) -> bool
 
 // Whether every float that a name holds is finite.
 pub fn cells_ok(m: State) -> bool
-    ensures { λ r. ⌜ r ≡ cellsOk (runOf m .vars) ⌝ }
+    ensures { λ r. ⌜ r ≡ cellsOk (stateOf m .vars) ⌝ }
 {
     let mut i = 0;
     while i < NAMES {

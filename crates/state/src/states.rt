@@ -4,7 +4,7 @@ ghost use Prim.Native.Nat.{_-_};
 ghost use lib.ListN.{replicate};
 ghost use lib.Seq.{sets};
 ghost use Rattle.state.specs.State.{flagged};
-ghost use Rattle.state.specs.Meaning.{runOf, Starts, Neatened, Becomes};
+ghost use Rattle.state.specs.Meaning.{stateOf, Starts, Neatened, Becomes};
 use super::Cell;
 use super::State;
 use super::Status;
@@ -33,7 +33,7 @@ pub fn fresh() -> State
 
 // The two flags that a control sets.
 pub fn with_flags(m: State, pending: bool, skip: bool) -> State
-    ensures { λ r. ⌜ Becomes m (flagged (runOf m) pending skip) r ⌝ }
+    ensures { λ r. ⌜ Becomes m (flagged (stateOf m) pending skip) r ⌝ }
 {
     let mut t = m;
     t.pending = pending;

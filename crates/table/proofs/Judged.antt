@@ -6,16 +6,16 @@ use native.Mathlib.Numerals.{add-one}
 use native.Mathlib.Omega.{arith}
 use lib.ListN.{length, drop}
 use borrow.Author.Tests.{le-leb, lt-leb}
-use Rattle.table.specs.Item.{Script}
+use Rattle.table.specs.Item.{Table}
 use Rattle.table.specs.Shape.{slotAt, itemsOf, itemOk, itemsOk, inShape}
 use Rattle.table.proofs.Items.{drop-items, no-items}
 
 -- the items before i are in shape: the table is exactly where the items from i on are
-pub record Judging (size : ℕ) (s : Script) (i : ℕ) : Type 0 where
+pub record Judging (size : ℕ) (s : Table) (i : ℕ) : Type 0 where
   pub within : i ≤ s .count
   pub same : inShape size s ≡ itemsOk (s .names) size (drop i (itemsOf s))
 
-module _ (size : ℕ) (s : Script) where
+module _ (size : ℕ) (s : Table) where
   pub too-many-items : 128 < s .count → inShape size s ≡ false
   unfolding inShape
   too-many-items h = rw (lt-leb _ _ h)
@@ -28,7 +28,7 @@ module _ (size : ℕ) (s : Script) where
   unfolding inShape
   shape-starts h k = record { within = omega arith; same = rw (le-leb _ _ h, le-leb _ _ k) }
 
-module _ {size : ℕ} {s : Script} {i : ℕ} (before : Judging size s i) where
+module _ {size : ℕ} {s : Table} {i : ℕ} (before : Judging size s i) where
   pub shape-next : i < s .count → s .count ≤ length (s .items) → itemOk (s .names) size (slotAt s i .item) ≡ true
       → Judging size s (i + 1)
   shape-next h k e =

@@ -1,7 +1,7 @@
 // The marks: which open, part and close a box, and of what sort; the package order.
 ghost use mathlib.Core.Path.{_≡_};
 ghost use Rattle.table.specs.Item.{sortOf, isLoop, isSweep, fits};
-ghost use Rattle.table.specs.Uses.{breaksOrder};
+ghost use Rattle.table.specs.ReadWrite.{breaksOrder};
 use super::Close;
 use super::Head;
 use super::Item;

@@ -3,31 +3,31 @@ ghost use mathlib.Core.Path.{_≡_};
 ghost use mathlib.Core.List.{[], _∷_};
 ghost use lib.Dec.{ltb};
 ghost use lib.ListN.{length};
-ghost use Rattle.table.specs.Code.{allWants, allGives};
-ghost use Rattle.table.specs.Shape.{slotAt, operandOk, wantsOk, givesOk, inside, ownOk, itemOk, inShape};
+ghost use Rattle.table.specs.Code.{allReads, allWrites};
+ghost use Rattle.table.specs.Shape.{slotAt, operandOk, readsOk, writesOk, inside, ownOk, itemOk, inShape};
 use super::Act;
-use super::Give;
-use super::Gives;
 use super::Item;
 use super::Operand;
-use super::Script;
+use super::Read;
+use super::Reads;
 use super::Slot;
+use super::Table;
 use super::Text;
-use super::Want;
-use super::Wants;
-use super::uses::reads;
-use super::uses::writes;
+use super::Write;
+use super::Writes;
+use super::read_write::reads_of;
+use super::read_write::writes_of;
 
 const ITEMS: usize = 128;
 
 const NAMES: usize = 32;
 
 // The slot at a place, and an empty one past the last.
-pub fn slot_at(script: Script, i: usize) -> Slot
-    ensures { λ r. ⌜ r ≡ slotAt script i ⌝ }
+pub fn slot_at(table: Table, i: usize) -> Slot
+    ensures { λ r. ⌜ r ≡ slotAt table i ⌝ }
 {
     if i < ITEMS {
-        let s = script.items[i];
+        let s = table.items[i];
         s
     } else {
         Slot {
@@ -46,23 +46,23 @@ fn operand_ok(names: usize, x: Operand) -> bool
     }
 }
 
-fn one_want_ok(names: usize, want: Want) -> bool
-    ensures { λ r. ⌜ r ≡ wantsOk names (want ∷ []) ⌝ }
+fn one_read_ok(names: usize, read: Read) -> bool
+    ensures { λ r. ⌜ r ≡ readsOk names (read ∷ []) ⌝ }
 {
-    match want {
-        Want::Any(x) => operand_ok(names, x),
-        Want::Alike(x, y) => operand_ok(names, x) & operand_ok(names, y),
-        Want::Float(x) => operand_ok(names, x),
+    match read {
+        Read::Any(x) => operand_ok(names, x),
+        Read::Alike(x, y) => operand_ok(names, x) & operand_ok(names, y),
+        Read::Float(x) => operand_ok(names, x),
     }
 }
 
-fn wants_ok(names: usize, wants: Wants) -> bool
-    ensures { λ r. ⌜ r ≡ wantsOk names (allWants wants) ⌝ }
+fn reads_ok(names: usize, reads: Reads) -> bool
+    ensures { λ r. ⌜ r ≡ readsOk names (allReads reads) ⌝ }
 {
-    match wants {
-        Wants::Nothing => true,
-        Wants::One(w) => one_want_ok(names, w),
-        Wants::FourFloats(a, b, c, d) => {
+    match reads {
+        Reads::Nothing => true,
+        Reads::One(w) => one_read_ok(names, w),
+        Reads::FourFloats(a, b, c, d) => {
             operand_ok(names, d)
                 & operand_ok(names, c)
                 & operand_ok(names, b)
@@ -77,22 +77,22 @@ fn below(n: usize, names: usize) -> bool
     n < names
 }
 
-fn one_give_ok(names: usize, give: Give) -> bool
-    ensures { λ r. ⌜ r ≡ givesOk names (give ∷ []) ⌝ }
+fn one_write_ok(names: usize, write: Write) -> bool
+    ensures { λ r. ⌜ r ≡ writesOk names (write ∷ []) ⌝ }
 {
-    match give {
-        Give::Like(n, x) => below(n, names) & operand_ok(names, x),
-        Give::Float(n) => below(n, names),
+    match write {
+        Write::Like(n, x) => below(n, names) & operand_ok(names, x),
+        Write::Float(n) => below(n, names),
     }
 }
 
-fn gives_ok(names: usize, gives: Gives) -> bool
-    ensures { λ r. ⌜ r ≡ givesOk names (allGives gives) ⌝ }
+fn writes_ok(names: usize, writes: Writes) -> bool
+    ensures { λ r. ⌜ r ≡ writesOk names (allWrites writes) ⌝ }
 {
-    match gives {
-        Gives::Nothing => true,
-        Gives::One(g) => one_give_ok(names, g),
-        Gives::TwoFloats(a, b) => below(b, names) & below(a, names),
+    match writes {
+        Writes::Nothing => true,
+        Writes::One(g) => one_write_ok(names, g),
+        Writes::TwoFloats(a, b) => below(b, names) & below(a, names),
     }
 }
 
@@ -147,15 +147,15 @@ fn own_ok(names: usize, size: usize, item: Item) -> bool
 pub fn item_ok(names: usize, size: usize, item: Item) -> bool
     ensures { λ r. ⌜ r ≡ itemOk names size item ⌝ }
 {
-    own_ok(names, size, item) & wants_ok(names, reads(item)) & gives_ok(names, writes(item))
+    own_ok(names, size, item) & reads_ok(names, reads_of(item)) & writes_ok(names, writes_of(item))
 }
 
 // Whether the table is in shape beside its script's bytes.
-pub fn in_shape(text: &[u8], script: Script) -> bool
-    ensures { λ r. ⌜ r ≡ inShape (length (now (text .entry))) script ⌝ }
+pub fn in_shape(text: &[u8], table: Table) -> bool
+    ensures { λ r. ⌜ r ≡ inShape (length (now (text .entry))) table ⌝ }
 {
-    let count = script.count;
-    let names = script.names;
+    let count = table.count;
+    let names = table.names;
     if ITEMS < count {
         return false;
     }
@@ -165,7 +165,7 @@ pub fn in_shape(text: &[u8], script: Script) -> bool
     let size = text.len();
     let mut i: usize = 0;
     while i < count {
-        let slot = script.items[i];
+        let slot = table.items[i];
         let item = slot.item;
         if !item_ok(names, size, item) {
             return false;

@@ -208,10 +208,10 @@ fn leave_words(s: LoopSort) -> Words
     }
 }
 
-fn part_words(v: Value, kind: u16) -> Words
-    ensures { λ r. ⌜ Reads (textOf (packPart v kind)) r ⌝ }
+fn part_words(v: Value, letters: u16) -> Words
+    ensures { λ r. ⌜ Reads (textOf (packPart v letters)) r ⌝ }
 {
-    let t = add_hex4(word(b"part:"), kind);
+    let t = add_hex4(word(b"part:"), letters);
     add_value(add_byte(t, b':'), v)
 }
 
@@ -242,7 +242,7 @@ fn words_of(what: What) -> Words
         What::Enter(s) => enter_words(s),
         What::Leave(s) => leave_words(s),
         What::Start => word(b"start"),
-        What::Part(v, kind) => part_words(v, kind),
+        What::Part(v, letters) => part_words(v, letters),
         What::End => word(b"end"),
         What::Text(text) => range_words(text),
         What::Order(o) => order_words(o),

@@ -8,7 +8,7 @@ use state::Control;
 use state::Offer;
 use state::Point;
 use state::State;
-use table::Script;
+use table::Table;
 
 const MOST_STEPS: usize = 64;
 
@@ -53,14 +53,14 @@ pub extern "C" fn timed_reply(bytes: &[u8]) -> usize {
 // How many items a script has, none where it is refused.
 #[no_mangle]
 pub extern "C" fn timed_load(text: &[u8]) -> usize {
-    let loaded = script::load(text);
-    let script = loaded.script;
-    script.count
+    let loaded = loader::load(text);
+    let table = loaded.table;
+    table.count
 }
 
 // 1 where a script is accepted.
-fn accepted_once(text: &[u8], script: Script) -> usize {
-    match rules::check(text, script) {
+fn accepted_once(text: &[u8], table: Table) -> usize {
+    match rules::check(text, table) {
         Verdict::Accepted => 1,
         Verdict::Refused(_, _) => 0,
     }
@@ -70,13 +70,13 @@ fn accepted_once(text: &[u8], script: Script) -> usize {
 // Here and below the ending line differs from turn to turn, so that each turn is done.
 #[no_mangle]
 pub extern "C" fn timed_check(text: &[u8], times: usize) -> usize {
-    let loaded = script::load(text);
-    let mut script = loaded.script;
+    let loaded = loader::load(text);
+    let mut table = loaded.table;
     let mut accepted: usize = 0;
     let mut i: usize = 0;
     while i < times {
-        script.end = i;
-        let once = accepted_once(text, script);
+        table.end = i;
+        let once = accepted_once(text, table);
         accepted = std::num::wrapping_add_usize(accepted, once);
         i += 1;
     }
@@ -129,8 +129,8 @@ fn steps_of(letters: &[u8]) -> Steps {
 
 // A run after its first steps. That `machine::run` is called from here too keeps it whole: within its one caller the
 // compiler would leave out the answers, which nobody reads.
-fn begun(text: &[u8], script: Script, first: &[u8]) -> State {
-    let ran = machine::run(text, script, state::fresh(), steps_of(first), MOST_STEPS);
+fn begun(text: &[u8], table: Table, first: &[u8]) -> State {
+    let ran = machine::run(text, table, state::fresh(), steps_of(first), MOST_STEPS);
     let m = ran.state;
     m
 }
@@ -138,18 +138,18 @@ fn begun(text: &[u8], script: Script, first: &[u8]) -> State {
 // How many things a run hands out behind its first steps, in so many steps as 64 letters tell over and over.
 #[no_mangle]
 pub extern "C" fn timed_steps(text: &[u8], first: &[u8], letters: &[u8], times: usize) -> usize {
-    let loaded = script::load(text);
-    let mut script = loaded.script;
+    let loaded = loader::load(text);
+    let mut table = loaded.table;
     let row = steps_of(letters);
-    let mut m = begun(text, script, first);
+    let mut m = begun(text, table, first);
     let mut handed: usize = 0;
     let mut i: usize = 0;
     while i < times {
-        script.end = i;
+        table.end = i;
         let told = row.at[i % MOST_STEPS];
         let control = told.control;
         let offer = told.offer;
-        let stepped = machine::step(text, script, m, control, offer);
+        let stepped = machine::step(text, table, m, control, offer);
         let next = stepped.state;
         m = next;
         handed = std::num::wrapping_add_usize(handed, stepped.count);
@@ -161,15 +161,15 @@ pub extern "C" fn timed_steps(text: &[u8], first: &[u8], letters: &[u8], times: 
 // The same by `machine::run`, so many times the 64 letters.
 #[no_mangle]
 pub extern "C" fn timed_runs(text: &[u8], first: &[u8], letters: &[u8], times: usize) -> usize {
-    let loaded = script::load(text);
-    let mut script = loaded.script;
+    let loaded = loader::load(text);
+    let mut table = loaded.table;
     let row = steps_of(letters);
-    let mut m = begun(text, script, first);
+    let mut m = begun(text, table, first);
     let mut handed: usize = 0;
     let mut i: usize = 0;
     while i < times {
-        script.end = i;
-        let ran = machine::run(text, script, m, row, MOST_STEPS);
+        table.end = i;
+        let ran = machine::run(text, table, m, row, MOST_STEPS);
         let next = ran.state;
         m = next;
         handed = std::num::wrapping_add_usize(handed, ran.handed);

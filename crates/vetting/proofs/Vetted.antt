@@ -8,9 +8,9 @@ use lib.ListN.{length}
 use Rattle.argument.specs.declared.Refusal.{Refusal}
 use Rattle.argument.specs.declared.Refusal.the-variants as Refusal
 use Rattle.argument.specs.Refusal.{numberOf}
-use Rattle.script.specs.declared.Answer.the-variants as Answer
-use Rattle.script.specs.declared.Loaded.{Loaded}
-use Rattle.script.specs.Load.{meaning, loaded}
+use Rattle.loader.specs.declared.Answer.the-variants as Answer
+use Rattle.loader.specs.declared.Loaded.{Loaded}
+use Rattle.loader.specs.Load.{meaning, loaded}
 use Rattle.rules.specs.Check.{Verdict, verdict}
 use Rattle.vetting.specs.Vet.{Told, told, vetted}
 
@@ -27,7 +27,7 @@ positive Refusal.DeclaredTwice = refl
 positive Refusal.TooManyNames = refl
 
 module _ (s : List ℕ) (l : Loaded) (loads : meaning l ≡ loaded s) where
-  pub by-rules : (v : Verdict) (r : Told) → l .answer ≡ Answer.Accepted → v ≡ verdict (length s) (l .script)
+  pub by-rules : (v : Verdict) (r : Told) → l .answer ≡ Answer.Accepted → v ≡ verdict (length s) (l .table)
       → r ≡ told v → r ≡ vetted s
   unfolding vetted
   by-rules v r e f g = rw (← loads, e) (g ∙ ap told f)

@@ -7,7 +7,7 @@ use mathlib.Core.List.{List}
 use lib.Dec.{eqb}
 use lib.ListN.{length}
 use Rattle.rules.specs.Check.{Verdict, accepted, refused, verdict}
-use Rattle.script.specs.Load.{Outcome, loaded}
+use Rattle.loader.specs.Load.{Outcome, loaded}
 pub use Rattle.vetting.specs.declared.Told.{Told}
 
 abbrev pub told : Verdict → Told

@@ -2,8 +2,8 @@
 ghost use mathlib.Core.Path.{_≡_};
 ghost use Rattle.rules.specs.Verdict.{meaning};
 ghost use Rattle.vetting.specs.Vet.{told, vetted};
+use loader::Answer;
 use rules::Verdict;
-use script::Answer;
 
 // 01's number and line, both 0 where the script is accepted.
 pub struct Told {
@@ -16,8 +16,8 @@ fn tell(verdict: Verdict) -> Told
 {
     match verdict {
         Verdict::Accepted => Told { number: 0, line: 0 },
-        Verdict::Refused(rule, line) => Told {
-            number: rules::number(rule),
+        Verdict::Refused(refusal, line) => Told {
+            number: rules::number(refusal),
             line: line,
         },
     }
@@ -27,9 +27,9 @@ fn tell(verdict: Verdict) -> Told
 pub fn vet(text: &[u8]) -> Told
     ensures { λ r. ⌜ r ≡ vetted (now (text .entry)) ⌝ }
 {
-    let loaded = script::load(text);
+    let loaded = loader::load(text);
     let answer = loaded.answer;
-    let table = loaded.script;
+    let table = loaded.table;
     match answer {
         Answer::Accepted => tell(rules::check(text, table)),
         Answer::Refused(why, line) => Told {

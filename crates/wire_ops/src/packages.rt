@@ -60,7 +60,7 @@ fn put_part(out: &mut [u8], at: usize, place: usize, part: Part) -> usize {
     let at = put(out, at, b"part=");
     let at = put_number(out, at, place);
     let at = put(out, at, b" type=");
-    let at = put_hex4(out, at, part.kind);
+    let at = put_hex4(out, at, part.letters);
     let at = put(out, at, b" value=");
     let at = put_amount(out, at, amount);
     put_metadata(out, at, part)
@@ -120,7 +120,7 @@ fn in_part(part: Part) -> usize {
     let status = part.status;
     let range = part.range;
     let noise = part.noise;
-    if part.kind != 0 {
+    if part.letters != 0 {
         return 1;
     }
     let n = wrapping_add_usize(in_amount(amount), in_metadatum(status));

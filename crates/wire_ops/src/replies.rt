@@ -12,9 +12,9 @@ use case_text::read::bytes_of;
 use case_text::read::number_of;
 use reply::Answer;
 use reply::Row;
-use reply::Table;
-use reply_line::Kind;
+use reply::RowTable;
 use reply_line::Refusal;
+use reply_line::RowKind;
 use std::num::wrapping_add_usize;
 
 const MOST_BYTES: usize = 65537;
@@ -37,18 +37,18 @@ const NO_ROW: usize = 56;
 const MARKS: u32 = 65536;
 
 // Of 1,024 rows those from one place to another are lent.
-fn lend_part(reply: &[u8], from: usize, to: usize) -> Table
+fn lend_part(reply: &[u8], from: usize, to: usize) -> RowTable
     requires { ⌜ (from ≤ to) × (to ≤ 1024) ⌝ }
     ensures { λ r. ⌜ meaning (r .answer) ≡ outcomeOf (to - from) (now (reply .entry)) ⌝ }
 {
     let mut rows = [Row {
-        kind: Kind::Plain,
+        kind: RowKind::Loop,
         mark: MARK,
         parent: PARENT,
         packages: PACKAGES,
     }; 1024];
     let answer = reply::read_reply(reply, &mut rows[from..to]);
-    Table {
+    RowTable {
         rows: rows,
         answer: answer,
     }
@@ -75,7 +75,7 @@ fn as_before(row: Row) -> usize
 }
 
 // How many of the rows from one place to another hold what they held before.
-fn kept(table: Table, from: usize, to: usize) -> usize {
+fn kept(table: RowTable, from: usize, to: usize) -> usize {
     let end = lesser(to, ROWS);
     let mut n: usize = 0;
     let mut i = lesser(from, end);
@@ -112,7 +112,7 @@ fn put_numbered(out: &mut [u8], at: usize, i: usize, row: Row) -> usize {
 }
 
 // The rows from the first that was lent on.
-fn put_rows(out: &mut [u8], at: usize, table: Table, first: usize, rows: usize) -> usize {
+fn put_rows(out: &mut [u8], at: usize, table: RowTable, first: usize, rows: usize) -> usize {
     let count = lesser(rows, ROWS);
     let mut at = at;
     let mut i: usize = 0;
@@ -133,7 +133,7 @@ fn put_bad(out: &mut [u8], why: Refusal, line: usize) -> usize {
     put_refused(out, reply_line::number(why) as usize, line)
 }
 
-fn put_listing(out: &mut [u8], table: Table, first: usize) -> usize {
+fn put_listing(out: &mut [u8], table: RowTable, first: usize) -> usize {
     let answer = table.answer;
     match answer {
         Answer::Read { code, used, rows } => {
@@ -165,7 +165,7 @@ pub fn reply(case: &[u8], out: &mut [u8]) -> usize {
     put_lent(out, &bytes[..n], number_of(case, b"rows="))
 }
 
-fn put_one(out: &mut [u8], table: Table, i: usize, rows: usize) -> usize {
+fn put_one(out: &mut [u8], table: RowTable, i: usize, rows: usize) -> usize {
     if rows <= i {
         return put_refused(out, NO_ROW, 0);
     }

@@ -23,10 +23,12 @@ use ghost.Atoms.{Atoms, sem}
 use contract.Monad.{Fun}
 use contract.Running.{givenOf, tables, tablesOf}
 use types.Kit as Kit
-use types.Kit.{Given, Item, Sq, runs, anyQ, atRet, ‵, _⊛_, ⋆, _$_, _∵_, !, qed, by, move, keep, drop, use1, split, join}
+use types.Kit.{Given, Item, Sq, runs, anyQ, atRet, ‵, _⊛_, ⋆, _$_, _∵_, !, qed, by, move, keep, drop, use1, split}
+use types.Kit.{join}
 use types.Kit.{rewrite, fsplit, fjoin, suffices, frame, done}
 use types.Run.{assigns-last, first, skips, jumps, blocks, branches, exec, Below, again, loops, look, look-raw, init}
-use types.Run.{store, store-raw, forget, stop, hop, fld, from, load, lit, of-opd, bin, and-then, no-more, assigns, land}
+use types.Run.{store, store-raw, forget, stop, hop, fld, from, load, lit, of-opd, bin, and-then, no-more, assigns}
+use types.Run.{land}
 use types.Run.{returns, enter, alloc1, alloc0, params1, pass1, pass0, free1, free0}
 use types.Part.{whole, sub, look-in}
 use sound.WpLaws.{FmC, fmOf, WpFn-mono}
@@ -126,11 +128,11 @@ module _ {s : List ℕ} {ys₀ : List Row} (t : Stage s ys₀) (less : Holds (lt
   abbrev tn : Turn
   tn = turned s (t .st) old
 
-  inside : t .st .pos < t .st .end
-  inside = ltb→lt (t .st .pos) (t .st .end) less
+  holder : t .st .pos < t .st .end
+  holder = ltb→lt (t .st .pos) (t .st .end) less
 
   one-of-them : at < length ys₀
-  one-of-them = place-below (t .st) (length ys₀) (t .come .ready .some inside)
+  one-of-them = place-below (t .st) (length ys₀) (t .come .ready .some holder)
 
   below : at < length (t .ys)
   below = subst (λ (m : ℕ). at < m) (sym (t .same)) one-of-them
@@ -148,11 +150,11 @@ module _ {s : List ℕ} {ys₀ : List Row} (t : Stage s ys₀) (less : Holds (lt
         ys = set (t .ys) at (tn .row);
         same = length-set (t .ys) at (tn .row) ∙ t .same;
         good = g;
-        come = come-on (t .come) inside;
+        come = come-on (t .come) holder;
       }
 
   nearer : (g : Is St.the-row (tn .next) (st-mach (tn .next) ∷ [])) → Nearer s ys₀ (next-stage g) t
-  nearer g = come-less (t .come) inside old
+  nearer g = come-less (t .come) holder old
 
 module _ {M : Type 1} (𝓤 : URA M) (H : Heap 𝓤) (A : Atoms 𝓤) (W : Given 𝓤 H A) (mem : Memory → SProp 𝓤)
     (run : Routine → Fun 𝓤) (κ μ : Lft) (q p : Share) (b o : ℕ) (γ : GName) (ys₀ : List Row) (r : RefT (List ℕ)) where

@@ -44,9 +44,9 @@ use denote.Triple.Clauses.{ensured, lasts}
 use denote.Triple.Call.{calls-at}
 use types.Tokens.{lft-new, lft-end}
 use denote.Signature.{plain}
-use Rattle.reply_line.specs.declared.Kind.the-variants as Kind
-use Rattle.reply_line.proofs.Kind as K
-use Rattle.reply_line.proofs.Kind.Laws as K′
+use Rattle.reply_line.specs.declared.RowKind.the-variants as RowKind
+use Rattle.reply_line.proofs.RowKind as K
+use Rattle.reply_line.proofs.RowKind.Laws as K′
 use Rattle.reply.specs.declared.Answer.{Answer}
 use Rattle.reply.specs.declared.Row.{Row}
 use Rattle.reply.specs.Reply.{outcomeOf}
@@ -59,8 +59,8 @@ use Rattle.reply.proofs.Row as T
 use Rattle.reply.proofs.Row.Laws as T′
 use Rattle.reply.proofs.Answer as An
 use Rattle.reply.proofs.Answer.Laws as An′
-use Rattle.reply.proofs.Table as Tb
-use Rattle.reply.proofs.Table.Laws as Tb′
+use Rattle.reply.proofs.RowTable as Tb
+use Rattle.reply.proofs.RowTable.Laws as Tb′
 use Rattle.reply.proofs.read_table.Key.{name as #reply·read-table}
 use Rattle.reply.proofs.read_table as f
 use Rattle.reply.proofs.read_table.Statement as stated
@@ -80,8 +80,8 @@ xs = replicate 1024 scriptRow
 abbrev xs-v : Val
 xs-v = arrayVal (replicate 1024 (mach scriptRow))
 
-kind-good : Is K.the-row Kind.Script (EL.vals K.the-type K′.the-laws Kind.Script)
-kind-good = EL.owes K.the-type K′.the-laws Kind.Script tt
+kind-good : Is K.the-row RowKind.Script (EL.vals K.the-type K′.the-laws RowKind.Script)
+kind-good = EL.owes K.the-type K′.the-laws RowKind.Script tt
 
 row-good : Is T.the-row scriptRow (mach scriptRow ∷ [])
 row-good = LL.owes T.the-type T′.the-laws scriptRow (
@@ -183,7 +183,7 @@ module _ {M : Type 1} (𝓤 : URA M) (H : Heap 𝓤) (A : Atoms 𝓤) (W : Given
         params1 ! $ pass1 ! (init ! 14 refl (tt, (tt, (record { fits = reply-room .0 }, tt)))) $ pass0 ! $
         -- [_8; …; _0; …; the token; what the reply's slice owns]: the array is made
         assigns ! (agg ! (and-then ! (lit ! tt) (no-more !))) (spot !)
-        (init ! 8 refl (EL.lawful K.the-type K′.the-laws 𝓤 H A W tt .typed Kind.Script _ kind-good .0)) $
+        (init ! 8 refl (EL.lawful K.the-type K′.the-laws 𝓤 H A W tt .typed RowKind.Script _ kind-good .0)) $
         assigns ! (agg ! (and-then ! (read-local ! 8 refl)
         (and-then ! (lit ! tt) (and-then ! (lit ! tt) (and-then ! (lit ! tt) (no-more !)))))) (spot !)
         (init ! 6 refl (typed 𝓤 H A W scriptRow row-good)) $

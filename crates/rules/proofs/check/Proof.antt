@@ -15,7 +15,7 @@ in-shape-requires c κs = search needs
 
 returns : tie.Need-returns
 returns c =
-    out-of-shape _ (c .before .before .before .args .script)
+    out-of-shape _ (c .before .before .before .args .table)
     (sym (c .before .in-shape .ensures) ∙ not-true _ (c .if1 .taken))
 
 -- the table is in shape
@@ -23,16 +23,16 @@ module _ (c : tie.Else1) where
   abbrev start : tie.Start
   start = c .before .before .before
 
-  in-shape : inShape (length (start .args .text .now)) (start .args .script) ≡ true
+  in-shape : inShape (length (start .args .text .now)) (start .args .table) ≡ true
   in-shape = sym (c .before .in-shape .ensures) ∙ not-false _ (c .if1 .left)
 
 kinds-of-requires : tie.Need-kinds-of-requires
-kinds-of-requires c κs = few-items _ (start c .args .script) (in-shape c)
+kinds-of-requires c κs = few-items _ (start c .args .table) (in-shape c)
 
 check-row-requires : tie.Need-check-row-requires
 check-row-requires c κs =
     let shaped = c .before in
-    reached _ (start shaped .args .script) (in-shape shaped)
+    reached _ (start shaped .args .table) (in-shape shaped)
     (simp length-map at (start shaped .good .1 .0 .1 .1 .0 .1 .0 .1))
 
 -- the row is walked
@@ -40,7 +40,7 @@ module _ (c : tie.After-check-row) where
   abbrev shaped : tie.Else1
   shaped = c .before .before
 
-  ended : Ended (length (start shaped .args .text .now)) (start shaped .args .script)
+  ended : Ended (length (start shaped .args .text .now)) (start shaped .args .table)
       (kindsIn (c .before .kinds-of .result)) (c .check-row .result)
   ended = record { shape = in-shape shaped; kinds = c .before .kinds-of .ensures; walks = c .check-row .ensures }
 

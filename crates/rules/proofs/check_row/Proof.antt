@@ -12,11 +12,11 @@ use Rattle.rules.proofs.check_row.Statement.{statement}
 use Rattle.rules.proofs.check_row.Tie as tie
 
 abbrev Inv-loop : tie.InvT-loop
-Inv-loop kinds script reads₀ writes₀ forms₀ count i₀ reads writes forms i =
-    Noting script (kindsIn kinds) (notes reads writes forms (script .count)) i
+Inv-loop kinds table reads₀ writes₀ forms₀ count i₀ reads writes forms i =
+    Noting table (kindsIn kinds) (notes reads writes forms (table .count)) i
 
 abbrev μ-loop : tie.MeasureT-loop
-μ-loop kinds script reads₀ writes₀ forms₀ count i₀ reads writes forms i = script .count - i
+μ-loop kinds table reads₀ writes₀ forms₀ count i₀ reads writes forms i = table .count - i
 
 loop-holds : tie.Need-loop-holds Inv-loop μ-loop
 loop-holds c = record {

@@ -6,7 +6,7 @@ use mathlib.Core.Path.{_≡_, sym, ap, _∙_}
 use Prim.Native.Nat.{ℕ}
 use Rattle.machine.specs.Course.{Course, stepsOf, runFrom}
 use Rattle.machine.specs.declared.Steps.{Steps}
-use Rattle.rules.specs.declared.Rule.{Rule}
+use Rattle.rules.specs.declared.Refusal.{Refusal as Rule}
 use Rattle.rules.specs.declared.Verdict.the-variants as Verdict
 use Rattle.rules.specs.Verdict.{numberOf as ruleNumber}
 use Rattle.safety.proofs.check_and_run.Statement.{statement}
@@ -14,7 +14,7 @@ use Rattle.safety.proofs.check_and_run.Tie as tie
 use Rattle.safety.proofs.Report.{rules-yes, rules-no, from-fresh, fixed}
 use Rattle.safety.specs.Outcome.{Outcome, refusal, checkedOutcome}
 use Rattle.state.specs.State.{fresh}
-use Rattle.table.specs.declared.Script.{Script}
+use Rattle.table.specs.declared.Table.{Table}
 
 abbrev ran : Course → Outcome
 ran x = record { number = 0; line = 0; course = x }
@@ -24,19 +24,19 @@ module _ (c : tie.After-check) where
   abbrev size : ℕ
   size = length (c .before .before .args .text .now)
 
-  abbrev script : Script
-  script = c .before .before .args .script
+  abbrev table : Table
+  table = c .before .before .args .table
 
   abbrev steps : Steps
   steps = c .before .before .args .steps
 
   accepts : c .check .result ≡ Verdict.Accepted
-      → ran (runFrom size script fresh (stepsOf steps)) ≡ checkedOutcome size script (stepsOf steps)
-  accepts is = sym (rules-yes size script (stepsOf steps) (c .check .result) (c .check .ensures) is)
+      → ran (runFrom size table fresh (stepsOf steps)) ≡ checkedOutcome size table (stepsOf steps)
+  accepts is = sym (rules-yes size table (stepsOf steps) (c .check .result) (c .check .ensures) is)
 
   refuses : (r : Rule) (line : ℕ) → c .check .result ≡ Verdict.Refused r line
-      → refusal (ruleNumber r) line ≡ checkedOutcome size script (stepsOf steps)
-  refuses r line is = sym (rules-no size script (stepsOf steps) (c .check .result) (c .check .ensures) r line is)
+      → refusal (ruleNumber r) line ≡ checkedOutcome size table (stepsOf steps)
+  refuses r line is = sym (rules-no size table (stepsOf steps) (c .check .result) (c .check .ensures) r line is)
 
 returns : tie.Need-returns
 returns c =

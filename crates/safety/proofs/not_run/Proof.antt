@@ -3,12 +3,12 @@ use Prim.Native.Nat.{zero-le}
 use mathlib.Core.Path.{refl, ap}
 use mathlib.Core.List.{[]}
 use borrow.Author.Needs.{needs}
-use Rattle.state.specs.State.{Run}
+use Rattle.state.specs.State.{State}
 use Rattle.machine.specs.Course.{Course}
 use Rattle.safety.proofs.not_run.Statement.{statement}
 use Rattle.safety.proofs.not_run.Tie as tie
 
-abbrev still : Run → Course
+abbrev still : State → Course
 still m = record { answers = []; counts = []; outs = []; last = m }
 
 fresh-requires : tie.Need-fresh-requires
@@ -16,7 +16,7 @@ fresh-requires c κs = search needs
 
 returns : tie.Need-returns
 returns c = (
-  ap (λ (m : Run). still m) (c .fresh .ensures .says),
+  ap (λ (m : State). still m) (c .fresh .ensures .says),
   record {
     neat = c .fresh .ensures .neat;
     blank = record { few = zero-le; answers = refl; few-things = zero-le; things = refl };

@@ -12,8 +12,8 @@ use Rattle.safety.proofs.Report.{form-yes, form-no, exact}
 use Rattle.safety.proofs.run.Statement.{statement}
 use Rattle.safety.proofs.run.Tie as tie
 use Rattle.safety.specs.Outcome.{refusal, checkedOutcome, outcome}
-use Rattle.script.specs.declared.Answer.the-variants as Answer
-use Rattle.script.specs.declared.Loaded.{Loaded}
+use Rattle.loader.specs.declared.Answer.the-variants as Answer
+use Rattle.loader.specs.declared.Loaded.{Loaded}
 use Rattle.state.specs.declared.Control.{Control}
 use Rattle.state.specs.declared.Offer.{Offer}
 
@@ -29,7 +29,7 @@ module _ (c : tie.After-load) where
   loaded = c .load .result
 
   accepts : loaded .answer ≡ Answer.Accepted
-      → checkedOutcome (length text) (loaded .script) steps ≡ outcome text steps
+      → checkedOutcome (length text) (loaded .table) steps ≡ outcome text steps
   accepts is = sym (form-yes text steps loaded (c .load .ensures) is)
 
   refuses : (r : Refusal) (line : ℕ) → loaded .answer ≡ Answer.Refused r line

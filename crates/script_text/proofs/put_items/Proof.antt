@@ -6,10 +6,10 @@ use Rattle.script_text.proofs.put_items.Statement.{statement}
 use Rattle.script_text.proofs.put_items.Tie as tie
 
 abbrev Inv-loop : tie.InvT-loop
-Inv-loop out₀ at script count at₀ i₀ out at' i = (i ≤ count) × (length out ≡ length out₀)
+Inv-loop out₀ at table count at₀ i₀ out at' i = (i ≤ count) × (length out ≡ length out₀)
 
 abbrev μ-loop : tie.MeasureT-loop
-μ-loop out₀ at script count at₀ i₀ out at' i = count - i
+μ-loop out₀ at table count at₀ i₀ out at' i = count - i
 
 pub put-items-spec : {M : Type 1} → statement M
 put-items-spec =

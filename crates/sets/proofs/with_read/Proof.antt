@@ -5,14 +5,14 @@ use Rattle.sets.proofs.with_read.Tie as tie
 enum-told : tie.Need-enum-told
 enum-told c = search needs
 
-enum-known-wants : tie.Need-enum-known-wants
-enum-known-wants c = search needs
+enum-known-reads : tie.Need-enum-known-reads
+enum-known-reads c = search needs
 
-with-want-requires : tie.Need-with-want-requires
-with-want-requires c κs = search needs
+with-one-read-requires : tie.Need-with-one-read-requires
+with-one-read-requires c κs = search needs
 
-enum-known-wants-2 : tie.Need-enum-known-wants-2
-enum-known-wants-2 c = search needs
+enum-known-reads-2 : tie.Need-enum-known-reads-2
+enum-known-reads-2 c = search needs
 
 with-operand-requires : tie.Need-with-operand-requires
 with-operand-requires c κs = search needs
@@ -30,7 +30,7 @@ returns : tie.Need-returns
 returns c = simp (c .enum-told .given .1)
 
 returns-2 : tie.Need-returns-2
-returns-2 c = simp (c .with-want .ensures, c .before .before .wants .given .1)
+returns-2 c = simp (c .with-one-read .ensures, c .before .before .reads .given .1)
 
 returns-3 : tie.Need-returns-3
 returns-3 c =
@@ -42,7 +42,7 @@ returns-3 c =
       third .with-operand3 .ensures,
       second .with-operand2 .ensures,
       first .with-operand .ensures,
-      first .before .before .wants2 .given .1,
+      first .before .before .reads2 .given .1,
     )
 
 pub with-read-spec : {M : Type 1} → statement M
@@ -50,9 +50,9 @@ with-read-spec =
     tie.close
     (tie.spec
     enum-told
-    enum-known-wants
-    with-want-requires
-    enum-known-wants-2
+    enum-known-reads
+    with-one-read-requires
+    enum-known-reads-2
     with-operand-requires
     with-operand-requires-2
     with-operand-requires-3

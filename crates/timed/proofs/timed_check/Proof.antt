@@ -4,10 +4,10 @@ use Rattle.timed.proofs.timed_check.Statement.{statement}
 use Rattle.timed.proofs.timed_check.Tie as tie
 
 abbrev Inv-loop : tie.InvT-loop
-Inv-loop text times script₀ accepted₀ i₀ script accepted i = i ≤ times
+Inv-loop text times table₀ accepted₀ i₀ table accepted i = i ≤ times
 
 abbrev μ-loop : tie.MeasureT-loop
-μ-loop text times script₀ accepted₀ i₀ script accepted i = times - i
+μ-loop text times table₀ accepted₀ i₀ table accepted i = times - i
 
 pub timed-check-spec : {M : Type 1} → statement M
 timed-check-spec =

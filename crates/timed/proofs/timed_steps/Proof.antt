@@ -4,10 +4,10 @@ use Rattle.timed.proofs.timed_steps.Statement.{statement}
 use Rattle.timed.proofs.timed_steps.Tie as tie
 
 abbrev Inv-loop : tie.InvT-loop
-Inv-loop text first letters times script₀ row m₀ handed₀ i₀ script m handed i = i ≤ times
+Inv-loop text first letters times table₀ row m₀ handed₀ i₀ table m handed i = i ≤ times
 
 abbrev μ-loop : tie.MeasureT-loop
-μ-loop text first letters times script₀ row m₀ handed₀ i₀ script m handed i = times - i
+μ-loop text first letters times table₀ row m₀ handed₀ i₀ table m handed i = times - i
 
 add-i : tie.Need-add-i Inv-loop μ-loop
 add-i c =

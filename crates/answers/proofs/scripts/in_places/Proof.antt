@@ -4,10 +4,10 @@ use Rattle.answers.proofs.scripts.in_places.Statement.{statement}
 use Rattle.answers.proofs.scripts.in_places.Tie as tie
 
 abbrev Inv-loop : tie.InvT-loop
-Inv-loop script from n₀ i₀ n i = i ≤ 128
+Inv-loop table from n₀ i₀ n i = i ≤ 128
 
 abbrev μ-loop : tie.MeasureT-loop
-μ-loop script from n₀ i₀ n i = 128 - i
+μ-loop table from n₀ i₀ n i = 128 - i
 
 pub in-places-spec : {M : Type 1} → statement M
 in-places-spec =

@@ -33,6 +33,9 @@ number-requires c κs = search needs
 no-row-requires-2 : tie.Need-no-row-requires-2
 no-row-requires-2 c κs = search needs
 
+cast-result : tie.Need-cast-result
+cast-result c = search needs
+
 returns : tie.Need-returns
 returns c =
     let known = c .before .before .before .before .before in
@@ -60,5 +63,5 @@ satv-reply-row-spec =
     tie.close
     (tie.spec
     slice-aggregate-read-numbers read-numbers-requires enum-known-rows slice-aggregate-row-in row-in-requires
-    row-told-requires no-row-requires enum-known-why number-requires no-row-requires-2 returns returns-2
-    returns-3)
+    row-told-requires no-row-requires enum-known-why number-requires cast-result no-row-requires-2 returns
+    returns-2 returns-3)

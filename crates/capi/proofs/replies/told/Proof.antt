@@ -12,6 +12,9 @@ enum-known-answer-2 c = search needs
 number-requires : tie.Need-number-requires
 number-requires c κs = search needs
 
+cast-result : tie.Need-cast-result
+cast-result c = search needs
+
 returns : tie.Need-returns
 returns c = told-read _ _ _ _ (c .before .answer .given .1)
 
@@ -20,4 +23,4 @@ returns-2 c = told-refused _ _ _ _ (c .before .before .answer2 .given .1) (c .nu
 
 pub told-spec : {M : Type 1} → statement M
 told-spec =
-    tie.close (tie.spec enum-known-answer enum-known-answer-2 number-requires returns returns-2)
+    tie.close (tie.spec enum-known-answer enum-known-answer-2 number-requires cast-result returns returns-2)

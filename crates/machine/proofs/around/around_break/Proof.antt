@@ -9,9 +9,9 @@ use Rattle.mates.specs.Code.{Seen}
 use Rattle.state.specs.Meaning.{tops}
 use Rattle.state.proofs.Boxes.{tops-top}
 use Rattle.effect.specs.declared.Spot.{Spot}
-use Rattle.machine.specs.Machine.{unwind}
-use Rattle.machine.specs.Code.{openAt}
-use Rattle.machine.proofs.Surroundings.{break-astray, break-around}
+use Rattle.steps.specs.Machine.{unwind}
+use Rattle.steps.specs.Code.{openAt}
+use Rattle.steps.proofs.Surroundings.{break-astray, break-around}
 use Rattle.machine.proofs.around.around_break.Statement.{statement}
 use Rattle.machine.proofs.around.around_break.Tie as tie
 

@@ -4,8 +4,8 @@ use mathlib.Core.Path.{refl}
 use native.Mathlib.Omega.{arith}
 use borrow.Author.Needs.{needs}
 use Rattle.effect.specs.declared.Spot.{Spot}
-use Rattle.machine.proofs.Lookups.{least-most}
-use Rattle.machine.proofs.Surroundings.{mark-astray, mark-around, top-box, no-box}
+use Rattle.steps.proofs.Lookups.{least-most}
+use Rattle.steps.proofs.Surroundings.{mark-astray, mark-around, top-box, no-box}
 use Rattle.machine.proofs.around.around_mark.Statement.{statement}
 use Rattle.machine.proofs.around.around_mark.Tie as tie
 

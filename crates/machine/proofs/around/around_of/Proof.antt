@@ -1,6 +1,6 @@
 use mathlib.Core.Path.{_∙_}
 use borrow.Author.Needs.{needs}
-use Rattle.machine.proofs.Surroundings.{around-act, around-pack, around-tag}
+use Rattle.steps.proofs.Surroundings.{around-act, around-pack, around-tag}
 use Rattle.machine.proofs.around.around_of.Statement.{statement}
 use Rattle.machine.proofs.around.around_of.Tie as tie
 

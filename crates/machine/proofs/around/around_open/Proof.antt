@@ -1,6 +1,6 @@
 use mathlib.Core.Path.{refl}
 use borrow.Author.Needs.{needs}
-use Rattle.machine.proofs.Surroundings.{open-around}
+use Rattle.steps.proofs.Surroundings.{open-around}
 use Rattle.machine.proofs.around.around_open.Statement.{statement}
 use Rattle.machine.proofs.around.around_open.Tie as tie
 

@@ -1,4 +1,4 @@
-use Rattle.machine.proofs.Answers.{never}
+use Rattle.steps.proofs.Answers.{never}
 use borrow.Author.Needs.{needs}
 use Rattle.machine.proofs.pieces.state_after.Statement.{statement}
 use Rattle.machine.proofs.pieces.state_after.Tie as tie

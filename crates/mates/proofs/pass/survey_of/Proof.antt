@@ -10,11 +10,11 @@ use Rattle.mates.proofs.pass.survey_of.Statement.{statement}
 use Rattle.mates.proofs.pass.survey_of.Tie as tie
 
 abbrev Inv-loop : tie.InvT-loop
-Inv-loop size script names count boxes₀ depth₀ at₀ shaped₀ n j₀ boxes depth at shaped j =
-    Passed size script n boxes depth at shaped j
+Inv-loop size table names count boxes₀ depth₀ at₀ shaped₀ n j₀ boxes depth at shaped j =
+    Passed size table n boxes depth at shaped j
 
 abbrev μ-loop : tie.MeasureT-loop
-μ-loop size script names count boxes₀ depth₀ at₀ shaped₀ n j₀ boxes depth at shaped j = n - j
+μ-loop size table names count boxes₀ depth₀ at₀ shaped₀ n j₀ boxes depth at shaped j = n - j
 
 -- ---- the places
 

@@ -18,9 +18,11 @@ use ghost.Atoms.{Atoms, sem}
 use contract.Monad.{Fun}
 use contract.Running.{givenOf, tables, tablesOf}
 use types.Kit as Kit
-use types.Kit.{Given, Item, given, learn, fsplit3, fjoin3, ‵, _⊛_, _$_, _∵_, !, qed, by, move, keep, drop, use1, split}
+use types.Kit.{Given, Item, given, learn, fsplit3, fjoin3, ‵, _⊛_, _$_, _∵_, !, qed, by, move, keep, drop, use1}
+use types.Kit.{split}
 use types.Kit.{join, fsplit, fjoin, feqI, suffices, frame, done}
-use types.Run.{look, init, forget, stop, hop, fld, from, load, of-opd, and-then, no-more, assigns, land, returns, enter}
+use types.Run.{look, init, forget, stop, hop, fld, from, load, of-opd, and-then, no-more, assigns, land, returns}
+use types.Run.{enter}
 use types.Run.{alloc1, alloc0, params1, pass1, pass0, free1, free0}
 use types.Part.{whole, sub, look-in, store-in}
 use sound.WpLaws.{FmC, fmOf, WpFn-mono}

@@ -1,5 +1,5 @@
 use Rattle.rules.specs.Code.{kindsIn, learnt}
-use Rattle.table.specs.Uses.{kindIn, kindAt}
+use Rattle.table.specs.ReadWrite.{kindIn, kindAt}
 use mathlib.Core.Path.{sym, ap, _∙_}
 use Rattle.rules.proofs.Sorting.{is-whole, is-float, teaches-none}
 use borrow.Author.Needs.{needs}

@@ -1,5 +1,5 @@
 use Rattle.rules.specs.Code.{kindsIn}
-use Rattle.table.specs.Uses.{kindIn, kindAt}
+use Rattle.table.specs.ReadWrite.{kindIn, kindAt}
 use mathlib.Core.Path.{_∙_}
 use Rattle.rules.proofs.Sorting.{not-float}
 use borrow.Author.Needs.{needs}

@@ -1,4 +1,4 @@
-use Rattle.table.specs.Uses.{lowest}
+use Rattle.table.specs.ReadWrite.{lowest}
 use mathlib.Core.Path.{ap, _∙_}
 use borrow.Author.Needs.{needs}
 use Rattle.rules.proofs.refusals.judge.Statement.{statement}

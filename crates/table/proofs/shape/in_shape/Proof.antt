@@ -6,24 +6,25 @@ use lib.ListN.{length, length-map}
 use borrow.Author.Needs.{needs}
 use borrow.Author.Tests.{not-true, not-false}
 use Rattle.table.specs.Shape.{slotAt, itemOk}
-use Rattle.table.specs.declared.Script.{Script}
-use Rattle.table.proofs.Judged.{Judging, too-many-items, too-many-names, shape-starts, shape-next, shape-broken}
+use Rattle.table.specs.declared.Table.{Table}
+use Rattle.table.proofs.Judged.{Judging, too-many-items, too-many-names, shape-starts, shape-next}
+use Rattle.table.proofs.Judged.{shape-broken}
 use Rattle.table.proofs.Judged.{shape-ends}
 use Rattle.table.proofs.shape.in_shape.Statement.{statement}
 use Rattle.table.proofs.shape.in_shape.Tie as tie
 
 abbrev Inv-loop : tie.InvT-loop
-Inv-loop text script count names size i₀ i = Judging (length text) script i
+Inv-loop text table count names size i₀ i = Judging (length text) table i
 
 abbrev μ-loop : tie.MeasureT-loop
-μ-loop text script count names size i₀ i = script .count - i
+μ-loop text table count names size i₀ i = table .count - i
 
 -- at the loop's head: the table that came in, and its count within the array
 module _ (c : tie.At-loop Inv-loop μ-loop) where
   abbrev start : tie.Start Inv-loop μ-loop
   start = c .before .before .before .before
 
-  abbrev table : Script
+  abbrev table : Table
   table = start .args .t2
 
   abbrev size : ℕ

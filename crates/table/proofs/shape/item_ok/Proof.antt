@@ -5,25 +5,25 @@ use Rattle.table.proofs.shape.item_ok.Tie as tie
 own-ok-requires : tie.Need-own-ok-requires
 own-ok-requires c κs = search needs
 
-reads-requires : tie.Need-reads-requires
-reads-requires c κs = search needs
+reads-of-requires : tie.Need-reads-of-requires
+reads-of-requires c κs = search needs
 
-wants-ok-requires : tie.Need-wants-ok-requires
-wants-ok-requires c κs = search needs
+reads-ok-requires : tie.Need-reads-ok-requires
+reads-ok-requires c κs = search needs
 
-writes-requires : tie.Need-writes-requires
-writes-requires c κs = search needs
+writes-of-requires : tie.Need-writes-of-requires
+writes-of-requires c κs = search needs
 
-gives-ok-requires : tie.Need-gives-ok-requires
-gives-ok-requires c κs = search needs
+writes-ok-requires : tie.Need-writes-ok-requires
+writes-ok-requires c κs = search needs
 
 returns : tie.Need-returns
 returns c =
     simp (
-      c .gives-ok .ensures,
-      c .before .writes .ensures,
-      c .before .before .wants-ok .ensures,
-      c .before .before .before .reads .ensures,
+      c .writes-ok .ensures,
+      c .before .writes-of .ensures,
+      c .before .before .reads-ok .ensures,
+      c .before .before .before .reads-of .ensures,
       c .before .before .before .before .own-ok .ensures,
     )
 
@@ -31,4 +31,4 @@ pub item-ok-spec : {M : Type 1} → statement M
 item-ok-spec =
     tie.close
     (tie.spec
-    own-ok-requires reads-requires wants-ok-requires writes-requires gives-ok-requires returns)
+    own-ok-requires reads-of-requires reads-ok-requires writes-of-requires writes-ok-requires returns)

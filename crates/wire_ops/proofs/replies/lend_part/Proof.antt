@@ -49,9 +49,9 @@ use denote.Triple.Clauses.{ensured, lasts}
 use denote.Triple.Call.{calls-at}
 use types.Tokens.{lft-new, lft-end}
 use denote.Signature.{plain}
-use Rattle.reply_line.specs.declared.Kind.the-variants as Kind
-use Rattle.reply_line.proofs.Kind as K
-use Rattle.reply_line.proofs.Kind.Laws as K′
+use Rattle.reply_line.specs.declared.RowKind.the-variants as RowKind
+use Rattle.reply_line.proofs.RowKind as K
+use Rattle.reply_line.proofs.RowKind.Laws as K′
 use Rattle.reply.specs.declared.Answer.{Answer}
 use Rattle.reply.specs.declared.Row.{Row}
 use Rattle.reply.specs.Reply.{meaning, outcomeOf}
@@ -60,13 +60,14 @@ use Rattle.laws.proofs.Walk.{ty}
 use borrow.Table.Elements.{at-mul}
 use denote.Memory.{mem as in-mem}
 use Rattle.wire_ops.proofs.Part.{Start, Sides, lends-part, part-back}
-use Rattle.reply.proofs.Tabled.{R, mach, an-mach, arr, arr-tells, tb, tb-mach, made, an-is, typed, arr-typed, tb-typed}
+use Rattle.reply.proofs.Tabled.{R, mach, an-mach, arr, arr-tells, tb, tb-mach, made, an-is, typed, arr-typed}
+use Rattle.reply.proofs.Tabled.{tb-typed}
 use Rattle.reply.proofs.Row as T
 use Rattle.reply.proofs.Row.Laws as T′
 use Rattle.reply.proofs.Answer as An
 use Rattle.reply.proofs.Answer.Laws as An′
-use Rattle.reply.proofs.Table as Tb
-use Rattle.reply.proofs.Table.Laws as Tb′
+use Rattle.reply.proofs.RowTable as Tb
+use Rattle.reply.proofs.RowTable.Laws as Tb′
 use Rattle.wire_ops.proofs.replies.lend_part.Key.{name as #lend-part}
 use Rattle.wire_ops.proofs.replies.lend_part as f
 use Rattle.wire_ops.proofs.replies.lend_part.Statement as stated
@@ -84,7 +85,7 @@ stayed = (
 
 -- what every row of the array is at first
 abbrev anyRow : Row
-anyRow = record { kind = Kind.Plain; mark = 999; parent = 77; packages = 99 }
+anyRow = record { kind = RowKind.Loop; mark = 999; parent = 77; packages = 99 }
 
 -- the array's rows at first, and its machine value
 abbrev xs : List Row
@@ -110,8 +111,8 @@ cut i e h g = ap (λ (m : ℕ). replicate m anyRow) (sym (all-counted i e h g))
     ∙ replicate-cut anyRow i ((e - i) + (1024 - e))
     ∙ ap (λ (l : List Row). some-rows i ++ l) (replicate-cut anyRow (e - i) (1024 - e))
 
-kind-good : Is K.the-row Kind.Plain (EL.vals K.the-type K′.the-laws Kind.Plain)
-kind-good = EL.owes K.the-type K′.the-laws Kind.Plain tt
+kind-good : Is K.the-row RowKind.Loop (EL.vals K.the-type K′.the-laws RowKind.Loop)
+kind-good = EL.owes K.the-type K′.the-laws RowKind.Loop tt
 
 row-good : Is T.the-row anyRow (mach anyRow ∷ [])
 row-good = LL.owes T.the-type T′.the-laws anyRow (
@@ -248,7 +249,7 @@ module _ {M : Type 1} (𝓤 : URA M) (H : Heap 𝓤) (A : Atoms 𝓤) (W : Given
         pass1 ! (init ! 22 refl (tt, record { fits = e-fits })) $ pass0 ! $
         -- [_14; …; _0; …; the token; what the parameters own]: the array is made
         assigns ! (agg ! (and-then ! (lit ! tt) (no-more !))) (from ! (stop !))
-        (init ! 16 refl (EL.lawful K.the-type K′.the-laws 𝓤 H A W tt .typed Kind.Plain _ kind-good .0)) $
+        (init ! 16 refl (EL.lawful K.the-type K′.the-laws 𝓤 H A W tt .typed RowKind.Loop _ kind-good .0)) $
         assigns ! (agg ! (and-then ! (load ! (from ! (stop !)) (look ! 16 refl))
         (and-then ! (lit ! tt) (and-then ! (lit ! tt) (and-then ! (lit ! tt) (no-more !)))))) (from ! (stop !))
         (init ! 14 refl (typed 𝓤 H A W anyRow row-good)) $

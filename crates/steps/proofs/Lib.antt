@@ -1,0 +1,16 @@
+pub mod Placed
+pub mod Chain
+pub mod Loops
+pub mod Stepping
+pub mod Shapes
+pub mod Running
+pub mod Faulting
+pub mod Effecting
+pub mod Surroundings
+pub mod Lookups
+pub mod Taken
+pub mod Keeping
+pub mod Answers
+pub mod Bounded
+pub mod Lasting
+pub mod Few
