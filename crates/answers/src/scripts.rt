@@ -8,7 +8,6 @@ use case_text::read::at_most;
 use case_text::read::bytes_of;
 use case_text::read::number_of;
 use loader::Answer;
-use rules::Refusal;
 use rules::Verdict;
 use script_text::put_table;
 use script_text::table_at;
@@ -26,7 +25,7 @@ pub fn put_form(out: &mut [u8], why: Refusal, line: usize) -> usize {
     put_refusal(out, argument::number(why) as usize, line)
 }
 
-pub fn put_rule(out: &mut [u8], refusal: Refusal, line: usize) -> usize {
+pub fn put_rule(out: &mut [u8], refusal: rules::Refusal, line: usize) -> usize {
     put_refusal(out, rules::number(refusal) as usize, line)
 }
 
