@@ -23,15 +23,17 @@ number-requires c κs = search needs
 
 returns : tie.Need-returns
 returns c =
-    by-rules _ (c .before .before .before .before .before .load .result)
-    (c .before .before .before .before .before .load .ensures) _ (c .tell .result)
-    (c .before .before .enum-told .given .1) (c .before .check .ensures) (c .tell .ensures)
+    let told = c .before .before in
+    let read = told .before .before .before in
+    by-rules _ (read .load .result) (read .load .ensures) _ (c .tell .result) (told .enum-told .given .1)
+    (c .before .check .ensures) (c .tell .ensures)
 
 returns-2 : tie.Need-returns-2
 returns-2 c =
-    by-loader _ (c .before .before .before .before .before .load .result)
-    (c .before .before .before .before .before .load .ensures) (c .number .result)
-    (c .before .before .answer .given .1) (c .number .ensures)
+    let known = c .before .before in
+    let read = known .before .before .before in
+    by-loader _ (read .load .result) (read .load .ensures) (c .number .result) (known .answer .given .1)
+    (c .number .ensures)
 
 pub vet-spec : {M : Type 1} → statement M
 vet-spec =
