@@ -40,13 +40,11 @@ use Rattle.state.specs.declared.Var.{Var}
 use Rattle.state.specs.declared.State as coded
 use Rattle.steps.specs.Machine as rules
 use Rattle.steps.specs.Machine.{anyOpen, leaveOuts, stateOk}
-use Rattle.steps.specs.Code.{stateWith, stepOf, operandCell, chosenOf, triedAt, triedBy, openAt, Surrounds}
-use Rattle.steps.specs.Code.{Here}
+use Rattle.steps.specs.Code.{stateWith, stepOf, operandCell, chosenOf, triedAt, triedBy, openAt, Surrounds, Here}
 use Rattle.steps.specs.Code.{LooksUp, stepKnown, least}
 use Rattle.steps.proofs.Effecting.{effect-is}
 use Rattle.machine.proofs.Laying.{Laid}
-use Rattle.steps.proofs.Lookups.{reads-all, reads-first, reads-second, mates, tried-all, first-tried}
-use Rattle.steps.proofs.Lookups.{count-is}
+use Rattle.steps.proofs.Lookups.{reads-all, reads-first, reads-second, mates, tried-all, first-tried, count-is}
 use Rattle.steps.proofs.Lookups.{items-few, item-clamped, tag-is, goes-on, tried-more, item-here, least-most}
 use Rattle.steps.proofs.Shapes.{and-r, shape-stands}
 

@@ -22,7 +22,7 @@ use Rattle.reply.specs.declared.NextLine.the-variants as NextLine
 use Rattle.reply.specs.declared.Row.{Row}
 use Rattle.reply.specs.Lines.{nextLine}
 use Rattle.reply.specs.Reply.{byMove, verdictFrom}
-use Rattle.reply.specs.Rows.{rowsAfter, insideAfter, whileOn, rowsFrom, seenFrom}
+use Rattle.reply.specs.Rows.{rowsAfter, holderAfter, whileOn, rowsFrom, seenFrom}
 use Rattle.reply.proofs.Lines.{Stands, stands, serves, Round, goes-on, ends-here, refused-here}
 use Rattle.reply.proofs.Lines.{no-line, no-more}
 
@@ -42,7 +42,7 @@ module _ (n : ℕ) where
         number = p .number + 1;
         used = x;
         state = step n l (p .state) .state;
-        holder = insideAfter l (p .holder) (p .rows);
+        holder = holderAfter l (p .holder) (p .rows);
         rows = rowsAfter l (p .holder) (p .rows);
       }
 

@@ -9,7 +9,7 @@ use Rattle.reply_line.specs.Line.{numberOf, letterOf, aloneIn, markOf, markLine
 use Rattle.reply_line.specs.Line.{byFirst, laterLine, lineAt}
 use Rattle.reply_step.specs.Step.{closes, step}
 use Rattle.reply.specs.Reply.{read, refusal, meaning, verdictFrom, verdict, outcomeOf}
-use Rattle.reply.specs.Rows.{scriptRow, newRow, rowsAfter, insideAfter, rowsFrom, rowsOf}
+use Rattle.reply.specs.Rows.{scriptRow, newRow, rowsAfter, holderAfter, rowsFrom, rowsOf}
 
 -- lines `e`, `M0000`, `*`, empty: an empty loop is still a row
 abbrev listed : List ℕ
@@ -21,7 +21,7 @@ unfolding outcomeOf meaning verdict verdictFrom step closes letterOf lineAt firs
 listed-outcome = refl
 
 pub listed-rows : rowsOf 1024 listed ≡ scriptRow ∷ newRow RowKind.Sweep 0 0 ∷ []
-unfolding rowsOf rowsFrom rowsAfter insideAfter step closes letterOf lineAt firstLine laterLine byFirst isE withRow
+unfolding rowsOf rowsFrom rowsAfter holderAfter step closes letterOf lineAt firstLine laterLine byFirst isE withRow
     aloneIn markLine markOf readHex hexFrom digitValue cut
 listed-rows = refl
 

@@ -26,7 +26,7 @@ use Rattle.reply.specs.declared.Seen.{Seen}
 use Rattle.reply.specs.declared.Stand.{Stand}
 use Rattle.reply.specs.Code.{seenAt, placeBy, oneMore, raisedRow, changeBy, clamp, placeIn, turned}
 use Rattle.reply.specs.Code.{Memory, turnIn, memoryAfter, passFrom}
-use Rattle.reply.specs.Rows.{scriptRow, newRow, raised, rowsAfter, insideAfter, isOpening, isPackage}
+use Rattle.reply.specs.Rows.{scriptRow, newRow, raised, rowsAfter, holderAfter, isOpening, isPackage}
 use Rattle.reply.specs.Rows.{packagesOf}
 use Rattle.reply.proofs.Course.{Place, past, saysFrom, makesFrom, Met, standing, rows-on, rows-ended}
 use Rattle.reply.proofs.Course.{Leads, on, ends, leads}
@@ -96,7 +96,7 @@ module _ {X : Type 0} (m : Memory X) (n : ℕ) where
   -- what the turn makes is what the definition makes
   record Turned (show : List Row → X) (l : Line) (at : ℕ) (rows : List Row) : Type 0 where
     memory : putFor (length rows) l at (show rows) ≡ show (rowsAfter l at rows)
-    holder : changeFor (length rows) l at (show rows) .holder ≡ insideAfter l at rows
+    holder : changeFor (length rows) l at (show rows) .holder ≡ holderAfter l at rows
     count : changeFor (length rows) l at (show rows) .rows ≡ length (rowsAfter l at rows)
 
 module _ {X : Type 0} {m : Memory X} {n : ℕ} {show : List Row → X} (w : Shows m n show)
@@ -124,7 +124,7 @@ module _ {X : Type 0} {m : Memory X} {n : ℕ} {show : List Row → X} (w : Show
       ∙ ap show (set-getD rows at scriptRow)
 
   turned-package : Turned m n show Line.Package at rows
-  unfolding placeBy changeBy rowsAfter insideAfter
+  unfolding placeBy changeBy rowsAfter holderAfter
   turned-package =
       record {
         memory = ap₂ (λ (p : ℕ) (r : Row). m .put (show rows) p (raisedRow r)) place old-row
@@ -136,7 +136,7 @@ module _ {X : Type 0} {m : Memory X} {n : ℕ} {show : List Row → X} (w : Show
       }
 
   turned-opens : (k : RowKind) (v : ℕ) → o .rows < n → Turned m n show (Line.Opens k v) at rows
-  unfolding placeBy changeBy rowsAfter insideAfter
+  unfolding placeBy changeBy rowsAfter holderAfter
   turned-opens k v more =
       let room : length rows < n = omega (arith, g .sound .counted) in
       record {
@@ -148,7 +148,7 @@ module _ {X : Type 0} {m : Memory X} {n : ℕ} {show : List Row → X} (w : Show
       }
 
   turned-on : (l : Line) → LeadsOn n o l → Turned m n show l at rows
-  unfolding placeBy changeBy rowsAfter insideAfter
+  unfolding placeBy changeBy rowsAfter holderAfter
   turned-on Line.Quiet y = record { memory = put-back; holder = refl; count = refl }
   turned-on Line.Empty y = absurd y
   turned-on Line.Package y = turned-package

@@ -18,7 +18,7 @@ use Rattle.reply.specs.declared.Answer.{Answer}
 use Rattle.reply.specs.declared.Answer.the-variants as Answer
 use Rattle.reply.specs.declared.Row.{Row}
 use Rattle.reply.specs.Reply.{verdictFrom}
-use Rattle.reply.specs.Rows.{scriptRow, newRow, raised, rowsAfter, insideAfter, rowsOf, seenIn}
+use Rattle.reply.specs.Rows.{scriptRow, newRow, raised, rowsAfter, holderAfter, rowsOf, seenIn}
 use Rattle.reply.specs.Rows.{isOpening, isPackage, countBy, packagesOf}
 use Rattle.reply.proofs.Course.{Place, past, makesFrom, readsFrom, saysFrom, Done, by-lines}
 
@@ -103,8 +103,8 @@ module _ {o : Open} {at : ℕ} {rows : List Row} (g : Sound o at rows) where
       back (suc i) h = omega (arith, g .up (suc i) h (omega arith))
 
   sound-after : (n : ℕ) (l : Line) → LeadsOn n o l
-      → Sound (openAfter l o) (insideAfter l at rows) (rowsAfter l at rows)
-  unfolding rowsAfter insideAfter
+      → Sound (openAfter l o) (holderAfter l at rows) (rowsAfter l at rows)
+  unfolding rowsAfter holderAfter
   sound-after n Line.Quiet y = g
   sound-after n Line.Empty y = absurd y
   sound-after n Line.Package y = sound-package
@@ -114,10 +114,10 @@ module _ {o : Open} {at : ℕ} {rows : List Row} (g : Sound o at rows) where
   sound-after n (Line.Refused r) y = absurd y
 
   pub sound-step : (n : ℕ) (l : Line) → step n l o .to ≡ Move.On
-      → Sound (step n l o .state) (insideAfter l at rows) (rowsAfter l at rows)
+      → Sound (step n l o .state) (holderAfter l at rows) (rowsAfter l at rows)
   sound-step n l e =
       let y : Onward n o l = onward n o l e in
-      subst (λ (x : Open). Sound x (insideAfter l at rows) (rowsAfter l at rows)) (sym (y .state))
+      subst (λ (x : Open). Sound x (holderAfter l at rows) (rowsAfter l at rows)) (sym (y .state))
       (sound-after n l (y .may))
 
 pub sound-begun : Sound begun 0 (scriptRow ∷ [])

@@ -26,7 +26,7 @@ use Rattle.reply.specs.declared.Stand.{Stand}
 use Rattle.reply.specs.Code.{seenAt, placeBy, oneMore, changeBy, noneLeft, standing, startIn, placeIn}
 use Rattle.reply.specs.Code.{turned, Memory, passFrom}
 use Rattle.reply.specs.Reply.{verdictFrom, verdict}
-use Rattle.reply.specs.Rows.{scriptRow, rowsAfter, insideAfter, rowsOf, rowsFrom}
+use Rattle.reply.specs.Rows.{scriptRow, rowsAfter, holderAfter, rowsOf, rowsFrom}
 use Rattle.reply.proofs.Course.{Place, past, saysFrom, makesFrom, not-read, Met, rows-on, rows-ended}
 use Rattle.reply.proofs.Course.{Leads, on, ends, leads}
 use Rattle.reply.proofs.Course as course
@@ -39,19 +39,19 @@ use Rattle.reply.proofs.Turns.{next-is, ahead}
 -- it makes nothing of the rows, and leads into no other
 record Plain (l : Line) (at : ℕ) (rows : List Row) : Type 0 where
   same : rowsAfter l at rows ≡ rows
-  stays : insideAfter l at rows ≡ at
+  stays : holderAfter l at rows ≡ at
 
 module _ (at : ℕ) (rows : List Row) where
   plain-quiet : Plain Line.Quiet at rows
-  unfolding rowsAfter insideAfter
+  unfolding rowsAfter holderAfter
   plain-quiet = record { same = refl; stays = refl }
 
   plain-error : (v : ℕ) → Plain (Line.Error v) at rows
-  unfolding rowsAfter insideAfter
+  unfolding rowsAfter holderAfter
   plain-error v = record { same = refl; stays = refl }
 
   plain-refused : (w : Refusal) → Plain (Line.Refused w) at rows
-  unfolding rowsAfter insideAfter
+  unfolding rowsAfter holderAfter
   plain-refused w = record { same = refl; stays = refl }
 
   with-row : (n : ℕ) (l : Line) → Plain l at rows → Plain (withRow n l) at rows

@@ -29,8 +29,8 @@ newRow k v up = record { kind = k; mark = v; parent = up; packages = 0 }
 abbrev pub raised : Row → Row
 raised r = record { kind = r .kind; mark = r .mark; parent = r .parent; packages = r .packages + 1 }
 
--- what a line makes of the rows, inside row `at`: an opening mark appends one, whose parent that is, and a package is
--- counted in it
+-- what a line makes of the rows, where `at` is the holder: an opening mark appends one, whose parent that is, and a
+-- package is counted in it
 unfoldable pub rowsAfter : Line → ℕ → List Row → List Row
 rowsAfter Line.Quiet at rows = rows
 rowsAfter Line.Empty at rows = rows
@@ -40,15 +40,16 @@ rowsAfter (Line.Closes k) at rows = rows
 rowsAfter (Line.Error v) at rows = rows
 rowsAfter (Line.Refused r) at rows = rows
 
--- inside which row it leads: an opening mark into its own, a closing mark back to the parent
-unfoldable pub insideAfter : Line → ℕ → List Row → ℕ
-insideAfter Line.Quiet at rows = at
-insideAfter Line.Empty at rows = at
-insideAfter Line.Package at rows = at
-insideAfter (Line.Opens k v) at rows = length rows
-insideAfter (Line.Closes k) at rows = getD rows at scriptRow .parent
-insideAfter (Line.Error v) at rows = at
-insideAfter (Line.Refused r) at rows = at
+-- the holder, the row that the next line stands in: an opening mark leads into its own row, a closing mark back to the
+-- parent
+unfoldable pub holderAfter : Line → ℕ → List Row → ℕ
+holderAfter Line.Quiet at rows = at
+holderAfter Line.Empty at rows = at
+holderAfter Line.Package at rows = at
+holderAfter (Line.Opens k v) at rows = length rows
+holderAfter (Line.Closes k) at rows = getD rows at scriptRow .parent
+holderAfter (Line.Error v) at rows = at
+holderAfter (Line.Refused r) at rows = at
 
 -- up to the line that ends the reply
 abbrev pub whileOn : {X : Type 0} → Move → X → X → X
@@ -57,11 +58,11 @@ whileOn (Move.Ends v) more done = done
 whileOn (Move.Refused r) more done = done
 
 unfoldable pub rowsFrom : ℕ → ℕ → Open → ℕ → List Row → List (List ℕ) → List Row
-unfolding rowsAfter insideAfter
+unfolding rowsAfter holderAfter
 rowsFrom n k o at rows [] = rows
 rowsFrom n k o at rows (l ∷ ls) =
     whileOn (step n (lineAt n k l) o .to)
-    (rowsFrom n (k + 1) (step n (lineAt n k l) o .state) (insideAfter (lineAt n k l) at rows)
+    (rowsFrom n (k + 1) (step n (lineAt n k l) o .state) (holderAfter (lineAt n k l) at rows)
     (rowsAfter (lineAt n k l) at rows) ls) rows
 
 -- the rows of a reply that is read: its first line makes the script's

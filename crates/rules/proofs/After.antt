@@ -13,9 +13,8 @@ use Rattle.table.specs.Item.{isLoop, isSweep}
 use Rattle.table.specs.ReadWrite.{Names, writesOf}
 use Rattle.sets.specs.Names.{either, put, namesOf}
 use Rattle.rules.specs.Check.{Box, Held, begin, after, anyBox}
-use Rattle.rules.specs.Code.{Form, Around, Holds, holdsOf, boxOf, boxesIn, stateOf, stateAfter, Boxed}
-use Rattle.rules.specs.Code.{plainForm, isOpen, isClose, sortIn, markIn, moved, Deeper, entered, Outside}
-use Rattle.rules.specs.Code.{Starts}
+use Rattle.rules.specs.Code.{Form, Around, Holds, holdsOf, boxOf, boxesIn, stateOf, stateAfter, Boxed, plainForm}
+use Rattle.rules.specs.Code.{isOpen, isClose, sortIn, markIn, moved, Deeper, entered, Outside, Starts}
 use Rattle.rules.specs.declared.briefs.Form.the-variants as Form
 use Rattle.rules.specs.declared.written.Held as coded
 use Rattle.rules.proofs.Forms.{no, formed, head-sort}

@@ -13,8 +13,7 @@ use Rattle.table.specs.declared.Item.the-variants as Item
 use Rattle.table.specs.Item.{sortOf, isElse}
 use Rattle.table.specs.ReadWrite.{Names, actWrites, headWrites, packs}
 use Rattle.sets.specs.Names.{nothing, everything, both, put}
-use Rattle.rules.specs.Check.{Box as Plain, Held, afterBox}
-use Rattle.rules.specs.Check.{after as afterPlain}
+use Rattle.rules.specs.Check.{Box as Plain, Held, afterBox, after as afterPlain}
 
 pub record Box : Type 0 where
   pub at : ℕ

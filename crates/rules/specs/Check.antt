@@ -22,8 +22,7 @@ use Rattle.table.specs.declared.Write.{Write}
 use Rattle.table.specs.declared.Write.the-variants as Write
 use Rattle.table.specs.Item.{sortOf, isOpen, isBranch, isClose, isBreak, isTag, isElse, isLoop, isSweep, opensA, fits}
 use Rattle.table.specs.ReadWrite.{Kinds, kindAt, kindIn, Names, has, readsOf, writesOf, actWrites, headWrites, wrong}
-use Rattle.table.specs.ReadWrite.{wrongWrite}
-use Rattle.table.specs.ReadWrite.{missing, breaksOrder, packs, lowest}
+use Rattle.table.specs.ReadWrite.{wrongWrite, missing, breaksOrder, packs, lowest}
 use Rattle.table.specs.Shape.{slotAt, itemsOf, inShape}
 use Rattle.sets.specs.Names.{nothing, everything, both, put}
 

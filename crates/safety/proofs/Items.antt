@@ -45,8 +45,7 @@ use Rattle.state.specs.declared.Offer.the-variants as Offer
 use Rattle.state.specs.State.{Vars, cellAt, isWritten, cellKind, cellValue, cellType, valueOf, holds, da, ba, eb}
 use Rattle.state.specs.State.{code0028, code0010, State, leaves, Answer, running, waiting, finished, stopped, fault}
 use Rattle.state.specs.State.{refuse, Step, goto, keep, unskip, said, stopsBy, reading, cellOk}
-use Rattle.steps.specs.Machine.{unwind, outside, next, kept, runAct, runPack, Chosen, otherwise, chosen, enter}
-use Rattle.steps.specs.Machine.{leave}
+use Rattle.steps.specs.Machine.{unwind, outside, next, kept, runAct, runPack, Chosen, otherwise, chosen, enter, leave}
 use Rattle.steps.specs.Machine.{runPoint, runHead, runBranch, runClose, runBreak, run}
 use Rattle.safety.specs.Safety.{isCode}
 use Rattle.safety.proofs.Laws.{no, or-l, or-r, and-l, and-r, both-r, not-nothing}

@@ -8,8 +8,7 @@ use Rattle.table.specs.declared.Item.{Item}
 use Rattle.state.specs.declared.Control.{Control}
 use Rattle.state.specs.declared.Offer.{Offer}
 use Rattle.state.specs.State.{Status, live, finishedRun, stoppedRun, faultRun, State, Answer, running, waiting}
-use Rattle.state.specs.State.{finished}
-use Rattle.state.specs.State.{stopped, fault, refuse, Step, fresh, Meets, ready, short, amiss}
+use Rattle.state.specs.State.{finished, stopped, fault, refuse, Step, fresh, Meets, ready, short, amiss}
 use Rattle.steps.specs.Machine.{served, told, moved, again}
 use Rattle.safety.specs.Safety.{isAmiss, wrongSort, allowed, unbroken, Promise}
 use Rattle.safety.proofs.Laws.{no′, not-nothing}

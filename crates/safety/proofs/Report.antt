@@ -32,8 +32,7 @@ use Rattle.machine.proofs.Resting.{all-alike, alike-neat}
 use Rattle.table.specs.Shape.{itemsOf}
 use Rattle.safety.specs.Safety.{allAllowed}
 use Rattle.safety.specs.declared.Checked.{Checked}
-use Rattle.safety.specs.Outcome.{Outcome, refusal, judged, checkedOutcome, outcome, Fixed, meaning}
-use Rattle.safety.specs.Outcome.{ExactOutcome}
+use Rattle.safety.specs.Outcome.{Outcome, refusal, judged, checkedOutcome, outcome, Fixed, meaning, ExactOutcome}
 use Rattle.safety.proofs.Safe.{answers-allowed}
 
 module _ (size : ℕ) (t : Table) (ps : List (Control × Offer)) (v : Judgement) (p : verdictMeaning v ≡ verdict size t)

@@ -19,8 +19,7 @@ use Rattle.state.specs.declared.Control.the-variants as Control
 use Rattle.state.specs.declared.Offer.{Offer}
 use Rattle.state.specs.declared.Offer.the-variants as Offer
 use Rattle.state.specs.State.{State, Out, Step, said, Meets, ready, short, amiss, wantsNothing, wantedBy, meets}
-use Rattle.state.specs.State.{cleared}
-use Rattle.state.specs.State.{flagged}
+use Rattle.state.specs.State.{cleared, flagged}
 use Rattle.steps.specs.Machine.{isEmpty as noneOpen, anyOpen, leaveOuts, isNone, next, run, served, finish, atItem}
 use Rattle.steps.specs.Machine.{told, tagFrom, ahead, abortDue, aborted, moved, stateOk}
 use Rattle.safety.specs.Safety.{wantedFrom, wantedAt, isAmiss}

@@ -24,8 +24,7 @@ use Rattle.table.specs.declared.Known.the-variants as Known
 use Rattle.table.specs.declared.Write.{Write}
 use Rattle.table.specs.declared.Write.the-variants as Write
 use Rattle.table.specs.ReadWrite.{actReads, readsOf, actWrites, headWrites, writesOf, Kinds, kindAt, kindIn, Names}
-use Rattle.table.specs.ReadWrite.{has, gone}
-use Rattle.table.specs.ReadWrite.{missing}
+use Rattle.table.specs.ReadWrite.{has, gone, missing}
 use Rattle.table.specs.Shape.{writesOk, itemOk}
 use Rattle.sets.specs.Names.{everything, both, put}
 use Rattle.rules.specs.Check.{isKnown, orElse, learn, base, afterBox}

@@ -17,9 +17,8 @@ use Rattle.rules.specs.Check.{accepted, refused, verdict}
 use Rattle.state.specs.declared.Control.{Control}
 use Rattle.state.specs.declared.Offer.{Offer}
 use Rattle.state.specs.State.{Status, live, finishedRun, stoppedRun, faultRun, code0028, code0010, State, Answer}
-use Rattle.state.specs.State.{running}
-use Rattle.state.specs.State.{waiting, finished, stopped, fault, refuse, Step, fresh, Wanted, wantsNothing, wantedBy}
-use Rattle.state.specs.State.{Meets, ready, short, amiss, meets}
+use Rattle.state.specs.State.{running, waiting, finished, stopped, fault, refuse, Step, fresh, Wanted, wantsNothing}
+use Rattle.state.specs.State.{wantedBy, Meets, ready, short, amiss, meets}
 use Rattle.steps.specs.Machine.{abortDue, told, step}
 use Rattle.machine.specs.Course.{runFrom}
 

@@ -38,18 +38,15 @@ use Rattle.effect.specs.declared.Trouble.the-variants as Trouble
 use Rattle.effect.specs.Code as effects
 use Rattle.operands.specs.Code as operands
 use Rattle.steps.specs.Machine as rules
-use Rattle.steps.specs.Machine.{unwind, leaveOuts, strays, astray, tooDeep, faults, next, badOf, tagFrom}
-use Rattle.steps.specs.Machine.{ahead}
+use Rattle.steps.specs.Machine.{unwind, leaveOuts, strays, astray, tooDeep, faults, next, badOf, tagFrom, ahead}
 use Rattle.steps.specs.Machine.{served, orFault, told, anyOpen}
-use Rattle.steps.specs.Code.{stateWith, liveState, stepOf, Reads, chosenOf, chosenAt, closeTop, sweepTop}
-use Rattle.steps.specs.Code.{openAt}
+use Rattle.steps.specs.Code.{stateWith, liveState, stepOf, Reads, chosenOf, chosenAt, closeTop, sweepTop, openAt}
 use Rattle.steps.specs.Code.{Surrounds, orLast, Here, LooksUp, stepKnown}
 use Rattle.steps.proofs.Loops.{if-chosen}
 use Rattle.steps.proofs.Placed.{fault-mark}
 use Rattle.steps.proofs.Stepping.{unfaulted, tag-below, item-faults, item-runs, at-end, faults-by-is}
 use Rattle.steps.proofs.Running.{below-is, top, top-is, acted, packed, chosen-is, sweep-is, loop-is}
-use Rattle.steps.proofs.Faulting.{room-loop, room-if, missing-is, wrong-is, depth-is, troubleOf}
-use Rattle.steps.proofs.Faulting.{fault-number}
+use Rattle.steps.proofs.Faulting.{room-loop, room-if, missing-is, wrong-is, depth-is, troubleOf, fault-number}
 pub use Rattle.steps.proofs.Running.{after-is}
 pub use Rattle.steps.proofs.Faulting.{missing-two, wrong-two, holds-two}
 

@@ -13,8 +13,7 @@ use Rattle.table.specs.Shape.{inShape, itemsOf}
 use Rattle.state.specs.declared.Control.{Control}
 use Rattle.state.specs.declared.Control.the-variants as Control
 use Rattle.state.specs.declared.Offer.{Offer}
-use Rattle.state.specs.State.{State, Status, live, finishedRun, stoppedRun, faultRun, Step, Meets, ready, short}
-use Rattle.state.specs.State.{amiss}
+use Rattle.state.specs.State.{State, Status, live, finishedRun, stoppedRun, faultRun, Step, Meets, ready, short, amiss}
 use Rattle.state.specs.State.{wantsNothing, wantedBy, meets, cleared}
 use Rattle.steps.specs.Machine as rules
 use Rattle.steps.specs.Machine.{run, served, orFault, finish, faults, tries, atItem, tagFrom, ahead, abortDue}

@@ -16,8 +16,7 @@ use Rattle.state.specs.declared.Offer.the-variants as Offer
 use Rattle.state.specs.State.{State, Status, live, finishedRun, stoppedRun, faultRun, Out, Step, Meets, ready, short}
 use Rattle.state.specs.State.{amiss, wantsNothing, wantedBy, meets, cleared, flagged, isHeld, stays, Answer, running}
 use Rattle.state.specs.State.{waiting, finished, stopped, fault, refuse}
-use Rattle.steps.specs.Machine.{run, served, orFault, finish, faults, tries, atItem, leaveOuts, tagFrom}
-use Rattle.steps.specs.Machine.{ahead}
+use Rattle.steps.specs.Machine.{run, served, orFault, finish, faults, tries, atItem, leaveOuts, tagFrom, ahead}
 use Rattle.steps.specs.Machine.{abortDue, aborted, moved, again, isEmpty, told, stateOk, shapeless, step}
 use Rattle.steps.specs.Code.{Faithful}
 use Rattle.steps.proofs.Taken.{run-taken}

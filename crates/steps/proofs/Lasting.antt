@@ -40,18 +40,15 @@ use Rattle.state.specs.declared.LoopSort.{LoopSort}
 use Rattle.state.specs.declared.LoopSort.the-variants as LoopSort
 use Rattle.state.specs.declared.Offer.{Offer}
 use Rattle.state.specs.declared.Offer.the-variants as Offer
-use Rattle.state.specs.State.{measures, Vars, cellAt, cellType, valueOf, holds, write, da, ba, eb, State, Status}
-use Rattle.state.specs.State.{live}
+use Rattle.state.specs.State.{measures, Vars, cellAt, cellType, valueOf, holds, write, da, ba, eb, State, Status, live}
 use Rattle.state.specs.State.{finishedRun, stoppedRun, faultRun, Out, Step, Meets, ready, short, amiss, goto, keep}
 use Rattle.state.specs.State.{unskip, end-with, reading, code0010, wantsNothing, wantedBy, meets, cleared, cellsOk}
 use Rattle.state.specs.State as runs
-use Rattle.steps.specs.Machine.{Chosen, into, beyond, bad, otherwise, next, unwind, outside, leaveOuts}
-use Rattle.steps.specs.Machine.{isNone}
-use Rattle.steps.specs.Machine.{isEmpty, faults, kept, runAct, runPack, chosen, enter, leave, runPoint}
-use Rattle.steps.specs.Machine.{runSweep, runHead, runBranch, runClose, runBreak, run, served, orFault}
-use Rattle.steps.specs.Machine.{finish}
-use Rattle.steps.specs.Machine.{tries, atItem, told, tagFrom, ahead, abortDue, aborted, moved, again, opensOk}
-use Rattle.steps.specs.Machine.{stateOk, step}
+use Rattle.steps.specs.Machine.{Chosen, into, beyond, bad, otherwise, next, unwind, outside, leaveOuts, isNone}
+use Rattle.steps.specs.Machine.{isEmpty, faults, kept, runAct, runPack, chosen, enter, leave, runPoint, runSweep}
+use Rattle.steps.specs.Machine.{runHead, runBranch, runClose, runBreak, run, served, orFault, finish, tries}
+use Rattle.steps.specs.Machine.{atItem, told, tagFrom, ahead, abortDue, aborted, moved, again, opensOk, stateOk}
+use Rattle.steps.specs.Machine.{step}
 use Rattle.steps.specs.Code.{ninth, boxOk}
 use Rattle.steps.proofs.Shapes.{and-l, and-r, Shaped, shaped-ok, ok-shaped}
 use Rattle.steps.proofs.Placed.{fault-open}

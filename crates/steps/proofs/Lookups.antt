@@ -45,8 +45,7 @@ use Rattle.state.specs.declared.Cell.{Cell}
 use Rattle.state.specs.declared.Var.{Var}
 use Rattle.steps.specs.Machine as rules
 use Rattle.steps.specs.Machine.{choose, tried, tagFrom}
-use Rattle.steps.specs.Code.{wrote, operandCell, Reads, chosenOf, triedBy, triedAt, chosenAt, liveState}
-use Rattle.steps.specs.Code.{orLast}
+use Rattle.steps.specs.Code.{wrote, operandCell, Reads, chosenOf, triedBy, triedAt, chosenAt, liveState, orLast}
 use Rattle.steps.specs.Code.{least}
 use Rattle.steps.proofs.Chain.{item-is, count-items, choose-more, choose-none}
 use Rattle.steps.proofs.Effecting.{after-is, missing-two, wrong-two, holds-two}

@@ -30,8 +30,7 @@ use Rattle.state.specs.declared.Point.{Point}
 use Rattle.state.specs.declared.Stop.the-variants as Stop
 use Rattle.state.specs.declared.What.the-variants as What
 use Rattle.state.specs.State as states
-use Rattle.state.specs.State.{Vars, cellAt, cellValue, valueOf, Out, State, stopsBy, code0010, outer, measures, da}
-use Rattle.state.specs.State.{ba}
+use Rattle.state.specs.State.{Vars, cellAt, cellValue, valueOf, Out, State, stopsBy, code0010, outer, measures, da, ba}
 use Rattle.state.specs.Meaning.{tops}
 use Rattle.state.proofs.Boxes.{tops-push}
 use Rattle.effect.specs.declared.Chosen.{Chosen}

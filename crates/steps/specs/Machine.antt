@@ -49,11 +49,9 @@ use Rattle.state.specs.declared.LoopSort.{LoopSort}
 use Rattle.state.specs.declared.LoopSort.the-variants as LoopSort
 use Rattle.state.specs.declared.Offer.{Offer}
 use Rattle.state.specs.declared.Offer.the-variants as Offer
-use Rattle.state.specs.State.{measures, Vars, cellAt, cellType, cellValue, written, kindNow, valueOf, holds, write}
-use Rattle.state.specs.State.{da}
+use Rattle.state.specs.State.{measures, Vars, cellAt, cellType, cellValue, written, kindNow, valueOf, holds, write, da}
 use Rattle.state.specs.State.{ba, eb, cellsOk, Status, live, finishedRun, stoppedRun, faultRun, code0028, code0010}
-use Rattle.state.specs.State.{State}
-use Rattle.state.specs.State.{goto, keep, unskip, end-with, packing, pend, toldIn, cleared, Out, enters, leaves}
+use Rattle.state.specs.State.{State, goto, keep, unskip, end-with, packing, pend, toldIn, cleared, Out, enters, leaves}
 use Rattle.state.specs.State.{packStart, packEnd, packPart, says, waits, setsE, setsMode, switchesCell, waiting}
 use Rattle.state.specs.State.{finished, stopped, fault, refuse, Step, said, faultsBy, stopsBy, Meets, ready, short}
 use Rattle.state.specs.State.{amiss, wantsNothing, wantedBy, meets, reading}
