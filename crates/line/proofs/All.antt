@@ -4,9 +4,9 @@ use lib.Dec.{eqb}
 use lib.ListN.{length, getD}
 use mathlib.Core.Bool.{Bool, true, _&&_}
 use mathlib.Core.List.{List}
-use mathlib.Core.Path.{_≡_, refl, _∙_}
+use mathlib.Core.Path.{_≡_, refl}
 use native.Mathlib.Omega.{arith}
-use Prim.Native.Nat.{ℕ, _≤_}
+use Prim.Native.Nat.{ℕ}
 use Rattle.argument.proofs.Past.{said-past}
 use Rattle.argument.specs.Argument.{emptySaid, said, stopped, saidAt}
 use Rattle.argument.specs.declared.Argument.the-variants as Argument

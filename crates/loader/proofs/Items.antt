@@ -7,7 +7,6 @@ use Prim.Native.Nat.{ℕ, _+_, _≤_}
 use native.Mathlib.Omega.{arith}
 use lib.Dec.{ltb}
 use lib.ListN.{length, getD}
-use borrow.Author.Tests.{ltb-true, ltb-false}
 use Rattle.table.specs.declared.Item.{Item}
 use Rattle.table.specs.Shape.{itemOk}
 use Rattle.word.specs.declared.Found.{Found}
@@ -24,7 +23,7 @@ use Rattle.line.specs.declared.MakeBranch.the-variants as B
 use Rattle.line.specs.declared.Make.{Make}
 use Rattle.line.specs.declared.Make.the-variants as M
 use Rattle.line.specs.Command.{Command, commands, tagCommand, commandWords, commandAt, itemOf, formOf}
-use Rattle.line.specs.Line.{Judgement, item, refused, argumentsAt, lower, lowest, orItem, byCommand, judged}
+use Rattle.line.specs.Line.{Judgement, item, argumentsAt, lowest, orItem, byCommand, judged}
 use Rattle.loader.specs.Load.{declares, counted}
 use Rattle.loader.proofs.Room.{isNew, in-row, right, apart, item-of, lower-both}
 use Rattle.loader.proofs.Said.{Fit, fit, isNamed, named-fit}

@@ -7,7 +7,7 @@ use native.Mathlib.Omega.{arith}
 use native.Mathlib.Numerals.{add-one}
 use lib.Dec.{ltb, eqb}
 use lib.ListN.{length, take, set, length-set, length-take, length-append}
-use borrow.Author.Tests.{le-leb, ltb-true, ltb-false, eqb-false}
+use borrow.Author.Tests.{le-leb, ltb-true, eqb-false}
 use Rattle.text.specs.Cut.{lines}
 use Rattle.table.specs.declared.Item.{Item}
 use Rattle.table.specs.declared.Slot.{Slot}
@@ -17,7 +17,7 @@ use Rattle.word.specs.Word.{skipped}
 use Rattle.line.specs.Line.{Judgement, item, refused, judged}
 use Rattle.loader.specs.Load.{Outcome, emptyTable, refusal, accepted, declares, counted, appended, Line}
 use Rattle.loader.specs.Load.{nothing, given, Step, taking, takenBy, lineStep, nameRow, named, walk, loaded}
-use Rattle.loader.proofs.Room.{apart, Few, room, count-few, few}
+use Rattle.loader.proofs.Room.{apart, Few, room, count-few}
 use Rattle.loader.proofs.Items.{judged-fit}
 
 -- ---- one item more

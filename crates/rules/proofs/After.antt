@@ -4,7 +4,6 @@ use mathlib.Core.Path.{_≡_, refl, sym, _∙_, ap}
 use mathlib.Core.Bool.{Bool, true, false, _||_}
 use mathlib.Core.List.{List, []}
 use native.Mathlib.Omega.{arith}
-use lib.ListN.{length}
 use Rattle.table.specs.declared.Item.{Item}
 use Rattle.table.specs.declared.Item.the-variants as Item
 use Rattle.table.specs.declared.Close.the-variants as Close
@@ -12,7 +11,7 @@ use Rattle.table.specs.declared.Pack.the-variants as Pack
 use Rattle.table.specs.Item.{isLoop, isSweep}
 use Rattle.table.specs.ReadWrite.{Names, writesOf}
 use Rattle.sets.specs.Names.{either, put, namesOf}
-use Rattle.rules.specs.Check.{Box, Held, begin, after, anyBox}
+use Rattle.rules.specs.Check.{Box, Held, begin, after}
 use Rattle.rules.specs.Code.{Form, Around, Holds, holdsOf, boxOf, boxesIn, stateOf, stateAfter, Boxed, plainForm}
 use Rattle.rules.specs.Code.{isOpen, isClose, sortIn, markIn, moved, Deeper, entered, Outside, Starts}
 use Rattle.rules.specs.declared.briefs.Form.the-variants as Form

@@ -1,6 +1,6 @@
 -- The items of a table in brief, one after the other. Assumes nothing.
 use Prim.Native.Nat.{ℕ, zero, suc, _+_, _≤_, _<_}
-use mathlib.Core.Path.{_≡_, refl, sym, ap, _∙_}
+use mathlib.Core.Path.{_≡_, refl, ap, _∙_}
 use mathlib.Core.Bool.{Bool, true, false, _&&_}
 use mathlib.Core.List.{List, [], _∷_}
 use native.Mathlib.Nat.{not-suc-le-zero, le-of-suc-le-suc}
@@ -19,7 +19,7 @@ use Rattle.table.proofs.Items.{drop-items, no-items}
 use Rattle.sets.specs.Names.{either, outside, namesOf}
 use Rattle.sets.proofs.Bits.{length-names}
 use Rattle.sets.proofs.Members.{read-outside, put-either}
-use Rattle.rules.specs.Code.{Form, Brief, Briefs, Noted, Notes, notes, NotedAt, Told, Reached}
+use Rattle.rules.specs.Code.{Form, Brief, Briefs, Noted, Notes, notes, Told, Reached}
 use Rattle.rules.specs.declared.briefs.Form.the-variants as Form
 
 -- of an item whose names are among the 32

@@ -12,7 +12,7 @@ use Rattle.table.specs.declared.Known.the-variants as Known
 use Rattle.table.specs.ReadWrite.{Kinds, kindAt, readsOf, writesOf, lowest}
 use Rattle.table.specs.Shape.{itemsOf, inShape}
 use Rattle.sets.specs.Names.{namesOf}
-use Rattle.rules.specs.Check.{Box, Held, begin, kindsOf, refusals, refusalsAtEnd, after, Verdict, accepted}
+use Rattle.rules.specs.Check.{Box, Held, begin, kindsOf, refusalsAtEnd, after, Verdict, accepted}
 use Rattle.rules.specs.Check.{refused, orGo, walk, lineOf, atLine, verdict}
 use Rattle.rules.specs.declared.Refusal.{Refusal}
 use Rattle.rules.specs.declared.Finding.{Finding}

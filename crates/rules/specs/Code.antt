@@ -24,7 +24,7 @@ use Rattle.table.specs.declared.Kind.the-variants as Kind
 use Rattle.table.specs.declared.Read.{Read}
 use Rattle.table.specs.declared.Write.{Write}
 use Rattle.table.specs.Item.{isElse, isLoop, isSweep}
-use Rattle.table.specs.ReadWrite.{Kinds, kindAt, Names, has, readsOf, writesOf, wrong, wrongWrite, missing, lowest}
+use Rattle.table.specs.ReadWrite.{Kinds, kindAt, Names, has, readsOf, writesOf, wrong, wrongWrite, missing}
 use Rattle.table.specs.Shape.{slotAt, readsOk}
 use Rattle.sets.specs.Names.{nothing, everything, both, either, outside, asks, put, namesOf}
 use Rattle.rules.specs.Check.{orElse, Box, Held, anyBox, afterBox, Verdict, accepted, orGo, walk}

@@ -5,7 +5,6 @@ use mathlib.Core.Bool.{Bool, true, false, not, _&&_, _||_, or-false}
 use mathlib.Core.List.{List, [], _∷_}
 use native.Mathlib.Omega.{arith}
 use native.Mathlib.Nat.{not-suc-le-zero, le-of-suc-le-suc}
-use lib.Dec.{ltb}
 use lib.ListN.{length, set, replicate, length-set}
 use borrow.Author.Tests.{ltb-true}
 use Rattle.laws.proofs.Bools.{and-l, and-r}

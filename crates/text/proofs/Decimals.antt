@@ -5,7 +5,7 @@ use lib.Dec.{leb, ltb}
 use lib.ListN.{drop, drop-of-length-le, getD, length, length-append, length-drop, length-replicate}
 use lib.ListN.{length-set, replicate, set, take, take-append-drop}
 use lib.Seq.{drop-append-seam, drop-cons, drop-set-lt, getD-set-same, take-all, take-set-le, take-take}
-use mathlib.Core.Bool.{Bool, _&&_, cond, false, true}
+use mathlib.Core.Bool.{Bool, _&&_, false, true}
 use mathlib.Core.List.{List, [], _∷_, _++_, append-assoc, append-nil}
 use mathlib.Core.Path.{_≡_, _∙_, ap, ap₂, refl, sym}
 use native.Mathlib.Decide.{decLt}
@@ -14,7 +14,7 @@ use native.Mathlib.Numerals.{add-one}
 use native.Mathlib.Omega.{arith}
 use Prim.Native.Nat.{ℕ, zero, suc, min, _+_, _-_, _*_, _/_, _%_, _^_, _≤_, _<_}
 use Rattle.text.proofs.Digits.{grows}
-use Rattle.text.specs.Bytes.{byte, digit}
+use Rattle.text.specs.Bytes.{digit}
 use Rattle.text.specs.Decimal.{decimal, decimalOf, digitRun, digits, number, numberAt, numberFrom}
 use Rattle.text.specs.declared.Decimal.{Decimal}
 use Rattle.text.specs.declared.Number.{Number}

@@ -20,10 +20,10 @@ use Rattle.text.specs.Decimal.{decimal, number}
 use Rattle.text.specs.Hex.{digitOf, hex4}
 use Rattle.text.specs.Put.{put}
 use Rattle.thing_text.proofs.Numbers.{four-read, sixteen-read}
-use Rattle.thing_text.specs.Read.{minus, bySign, readWhole, readHex4, readHex16}
+use Rattle.thing_text.specs.Read.{minus, bySign, readWhole, readHex16}
 use Rattle.thing_text.specs.Read.{readValue, readAmount, partOf, rangeOf}
 use Rattle.thing_text.specs.Read.{readThing, SoundValue, Sound, ReadsBack}
-use Rattle.thing_text.specs.Thing.{amountText, textOf, refused, accepted, Written, leaves, write}
+use Rattle.thing_text.specs.Thing.{amountText, textOf, refused, accepted, leaves, write}
 use Rattle.thing_text.specs.Thing.{wholeText, hex16, valueText}
 use Rattle.value.specs.declared.Value.the-variants as Value
 use Rattle.value.specs.declared.Value.{Value}

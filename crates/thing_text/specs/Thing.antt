@@ -2,7 +2,7 @@
 -- when it is left, a package's start, part or end, a text, an order, or nothing. What a thing carries stands behind its
 -- word, each part behind a colon. Assumes nothing.
 use lib.Dec.{ltb}
-use lib.Ieee.{Float, binary64, toBits}
+use lib.Ieee.{binary64, toBits}
 use lib.IntN.{ℤ, pos, negsuc, natAbs}
 use lib.ListN.{length}
 use mathlib.Core.Bool.{Bool, true, false, cond}

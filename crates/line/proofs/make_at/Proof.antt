@@ -1,5 +1,4 @@
 use mathlib.Core.Path.{sym, ap}
-use native.Mathlib.Omega.{arith}
 use Rattle.line.specs.Command.{commands, commandAt}
 use Prim.Native.Nat.{ℕ}
 use Rattle.line.proofs.Rows as L

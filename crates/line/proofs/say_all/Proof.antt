@@ -1,14 +1,11 @@
 -- `line::say_all` reads three arguments, and the others where the line goes on. Assumes nothing.
 use borrow.Author.Needs.{needs}
-use lib.ListN.{getD}
 use mathlib.Core.List.{List}
-use mathlib.Core.Path.{_≡_, sym, _∙_}
+use mathlib.Core.Path.{sym, _∙_}
 use Prim.Native.Nat.{ℕ}
-use Rattle.argument.specs.Argument.{saidAt}
 use Rattle.line.proofs.All.{First, all, nothing-left}
 use Rattle.line.proofs.say_all.Statement.{statement}
 use Rattle.line.proofs.say_all.Tie as tie
-use Rattle.line.specs.Command.{formOf}
 
 -- with the first three arguments
 module _ (c : tie.After-is-all-over) where

@@ -1,14 +1,14 @@
 -- `thing_text::add_hex16`: four times four digits. Assumes nothing.
 use borrow.Author.Needs.{needs}
-use mathlib.Core.List.{List, _++_}
+use mathlib.Core.List.{_++_}
 use mathlib.Core.Path.{_≡_}
 use native.Mathlib.Omega.{arith}
-use Prim.Native.Nat.{ℕ, _+_, _≤_}
+use Prim.Native.Nat.{ℕ, _+_}
 use Rattle.text.specs.Hex.{hex4}
 use Rattle.thing_text.proofs.add_hex16.Statement.{statement}
 use Rattle.thing_text.proofs.add_hex16.Tie as tie
 use Rattle.thing_text.proofs.Bytes.{adds-hex16, adds-more, four-long}
-use Rattle.thing_text.specs.Code.{Adds, Words}
+use Rattle.thing_text.specs.Code.{Adds}
 
 -- ---- the places
 

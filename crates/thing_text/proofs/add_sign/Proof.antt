@@ -9,7 +9,7 @@ use mir.Facts.{toZ-ofZ}
 use mir.Syntax.{w32}
 use mir.Val.{ofZ, toZ}
 use native.Mathlib.Omega.{arith}
-use Prim.Native.Nat.{ℕ, _+_, _≤_}
+use Prim.Native.Nat.{ℕ, _+_}
 use Rattle.thing_text.proofs.add_sign.Statement.{statement}
 use Rattle.thing_text.proofs.add_sign.Tie as tie
 use Rattle.thing_text.proofs.Bytes.{adds-as, adds-none}

@@ -58,7 +58,6 @@ use Rattle.reply.specs.Reply.{meaning, outcomeOf}
 use Rattle.reply.specs.Rows.{ReadRows}
 use Rattle.laws.proofs.Walk.{ty}
 use borrow.Table.Elements.{at-mul}
-use denote.Memory.{mem as in-mem}
 use Rattle.wire_ops.proofs.Part.{Start, Sides, lends-part, part-back}
 use Rattle.reply.proofs.Tabled.{R, mach, an-mach, arr, arr-tells, tb, tb-mach, made, an-is, typed, arr-typed}
 use Rattle.reply.proofs.Tabled.{tb-typed}
