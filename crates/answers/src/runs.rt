@@ -9,9 +9,9 @@ use case_text::read::find;
 use case_text::read::next_line;
 use case_text::read::number;
 use case_text::read::number_of;
+use course::Ran;
 use libc::STDOUT_FILENO;
 use loader::Answer;
-use machine::Ran;
 use run_text::runs::put_ran;
 use run_text::runs::put_step;
 use run_text::runs::state_at;
@@ -101,7 +101,7 @@ pub fn run_within(case: &[u8], out: &mut [u8]) -> usize {
     let bytes = io::large_buffer();
     let n = at_most(number_of(case, b"length="), &bytes);
     let budget = number_of(case, b"budget=");
-    let ran = machine::run(
+    let ran = course::run(
         &bytes[..n],
         table_at(case),
         state_at(case),

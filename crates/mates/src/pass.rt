@@ -1,21 +1,18 @@
-// The pass over a table: the marks of its items, found with a row of the boxes that are open.
+// The pass over a row of roles: the marks of the items, found with a row of the boxes that are open.
 ghost use mathlib.Core.Path.{_≡_};
 ghost use Prim.Native.Nat.{_<_};
-ghost use Rattle.mates.specs.Code.{narrowed, roleOf, topPlace, fitsIn, depthPast, ownerOf, markFor, sortIn};
-ghost use Rattle.mates.specs.Code.{openedBy, least, Surveyed};
+ghost use Rattle.mates.specs.Code.{narrowed, roleOf, fitsRole, topPlace, fitsIn, depthPast, ownerOf, markFor};
+ghost use Rattle.mates.specs.Code.{sortIn, openedBy, least, marksOf};
 use super::Mark;
 use super::Marks;
 use super::Open;
 use super::Role;
-use super::Survey;
+use table::Close;
 use table::Head;
 use table::Item;
 use table::Sort;
-use table::Table;
 
 const ITEMS: usize = 128;
-
-const NAMES: usize = 32;
 
 // Where the innermost of d open boxes stands in their row.
 fn top_place(d: usize) -> usize
@@ -24,30 +21,47 @@ fn top_place(d: usize) -> usize
     if d == 0 { 0 } else { d - 1 }
 }
 
+// An item of this role is a branch or closing mark of a box of this sort.
+fn fits_role(x: Role, k: Sort) -> bool
+    ensures { λ r. ⌜ r ≡ fitsRole x k ⌝ }
+{
+    match x {
+        Role::Tag => false,
+        Role::Plain => false,
+        Role::If => false,
+        Role::Loop => false,
+        Role::Sweep => false,
+        Role::Branch => !table::is_loop(k),
+        Role::EndIf => !table::is_loop(k),
+        Role::EndLoop => table::is_loop(k),
+    }
+}
+
 // Whether x belongs to the innermost of d open boxes, which is o.
-fn fits_top(x: Item, d: usize, o: Open) -> bool
+fn fits_top(x: Role, d: usize, o: Open) -> bool
     ensures { λ r. ⌜ r ≡ fitsIn x d o ⌝ }
 {
     let k = o.sort;
     if d == 0 {
         return false;
     }
-    table::fits_sort(x, k)
+    fits_role(x, k)
 }
 
 // How many boxes are open past x, of d before it; fits says whether x belongs to the innermost.
-fn depth_past(x: Item, d: usize, fits: bool) -> usize
+fn depth_past(x: Role, d: usize, fits: bool) -> usize
     requires { ⌜ d < 128 ⌝ }
     ensures { λ r. ⌜ r ≡ depthPast x d fits ⌝ }
 {
     match x {
-        Item::Act(_) => d,
-        Item::Pack(_) => d,
-        Item::Open(_) => d + 1,
-        Item::Branch(_) => d,
-        Item::Close(_) => { if fits { top_place(d) } else { d } }
-        Item::Break => d,
-        Item::Tag => d,
+        Role::Tag => d,
+        Role::Plain => d,
+        Role::If => d + 1,
+        Role::Loop => d + 1,
+        Role::Sweep => d + 1,
+        Role::Branch => d,
+        Role::EndIf => { if fits { top_place(d) } else { d } }
+        Role::EndLoop => { if fits { top_place(d) } else { d } }
     }
 }
 
@@ -68,7 +82,17 @@ fn head_role(h: Head) -> Role
     }
 }
 
-fn role_of(x: Item) -> Role
+fn close_role(e: Close) -> Role
+    ensures { λ r. ⌜ r ≡ roleOf (Item.Close e) ⌝ }
+{
+    match e {
+        Close::EndIf => Role::EndIf,
+        Close::EndLoop => Role::EndLoop,
+    }
+}
+
+// What an item is to the boxes.
+pub fn role_of(x: Item) -> Role
     ensures { λ r. ⌜ r ≡ roleOf x ⌝ }
 {
     match x {
@@ -76,7 +100,7 @@ fn role_of(x: Item) -> Role
         Item::Pack(_) => Role::Plain,
         Item::Open(h) => head_role(h),
         Item::Branch(_) => Role::Branch,
-        Item::Close(_) => Role::Close,
+        Item::Close(e) => close_role(e),
         Item::Break => Role::Plain,
         Item::Tag => Role::Tag,
     }
@@ -89,17 +113,17 @@ fn owner_of(fits: bool, o: Open) -> u8
     if fits { narrow(o.at) } else { 0 }
 }
 
-fn mark_in(x: Item, fits: bool, o: Open) -> Mark
+fn mark_in(x: Role, fits: bool, o: Open) -> Mark
     ensures { λ r. ⌜ r ≡ markFor x fits o ⌝ }
 {
     Mark {
         opening: owner_of(fits, o),
-        role: role_of(x),
+        role: x,
     }
 }
 
 // The box that x opens at j; of any other item nothing is asked.
-fn opened(x: Item, j: usize) -> Open
+fn opened(x: Role, j: usize) -> Open
     ensures { λ r. ⌜ r ≡ openedBy x j ⌝ }
 {
     Open {
@@ -108,17 +132,18 @@ fn opened(x: Item, j: usize) -> Open
     }
 }
 
-fn sort_in(x: Item) -> Sort
+fn sort_in(x: Role) -> Sort
     ensures { λ r. ⌜ r ≡ sortIn x ⌝ }
 {
     match x {
-        Item::Act(_) => Sort::If,
-        Item::Pack(_) => Sort::If,
-        Item::Open(h) => table::sort_of(h),
-        Item::Branch(_) => Sort::If,
-        Item::Close(_) => Sort::If,
-        Item::Break => Sort::If,
-        Item::Tag => Sort::If,
+        Role::Tag => Sort::If,
+        Role::Plain => Sort::If,
+        Role::If => Sort::If,
+        Role::Loop => Sort::Loop,
+        Role::Sweep => Sort::Sweep,
+        Role::Branch => Sort::If,
+        Role::EndIf => Sort::If,
+        Role::EndLoop => Sort::If,
     }
 }
 
@@ -128,12 +153,10 @@ fn at_most(n: usize, most: usize) -> usize
     if n <= most { n } else { most }
 }
 
-// One pass over a table.
-pub fn survey_of(size: usize, table: Table) -> Survey
-    ensures { λ r. ⌜ Surveyed size table r ⌝ }
+// The marks of the items whose roles are the first n, in one pass; past the last item a tag's.
+pub fn marks_of(roles: [Role; 128], n: usize) -> Marks
+    ensures { λ r. ⌜ r ≡ marksOf roles n ⌝ }
 {
-    let names = table.names;
-    let count = table.count;
     let mut boxes = [Open {
         at: 0,
         sort: Sort::If,
@@ -143,23 +166,17 @@ pub fn survey_of(size: usize, table: Table) -> Survey
         opening: 0,
         role: Role::Tag,
     }; 128];
-    let mut shaped = (count <= ITEMS) & (names <= NAMES);
-    let n = at_most(count, ITEMS);
+    let end = at_most(n, ITEMS);
     let mut j: usize = 0;
-    while j < n {
-        let slot = table.items[j];
-        let x = slot.item;
+    while j < end {
+        let x = roles[j];
         let place = top_place(depth);
         let top = boxes[place];
         let fits = fits_top(x, depth, top);
         at[j] = mark_in(x, fits, top);
         boxes[depth] = opened(x, j);
         depth = depth_past(x, depth, fits);
-        shaped = shaped & table::item_ok(names, size, x);
         j += 1;
     }
-    Survey {
-        marks: Marks { at: at },
-        shaped: shaped,
-    }
+    Marks { at: at }
 }

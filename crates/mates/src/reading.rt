@@ -33,7 +33,8 @@ fn role_sweeps(r: Role) -> bool
         Role::Loop => false,
         Role::Sweep => true,
         Role::Branch => false,
-        Role::Close => false,
+        Role::EndIf => false,
+        Role::EndLoop => false,
         Role::Tag => false,
     }
 }
@@ -47,7 +48,8 @@ fn role_loops(r: Role) -> bool
         Role::Loop => true,
         Role::Sweep => true,
         Role::Branch => false,
-        Role::Close => false,
+        Role::EndIf => false,
+        Role::EndLoop => false,
         Role::Tag => false,
     }
 }
@@ -61,7 +63,8 @@ fn role_opens(r: Role) -> bool
         Role::Loop => true,
         Role::Sweep => true,
         Role::Branch => false,
-        Role::Close => false,
+        Role::EndIf => false,
+        Role::EndLoop => false,
         Role::Tag => false,
     }
 }
@@ -75,7 +78,8 @@ fn role_closes(r: Role) -> bool
         Role::Loop => false,
         Role::Sweep => false,
         Role::Branch => false,
-        Role::Close => true,
+        Role::EndIf => true,
+        Role::EndLoop => true,
         Role::Tag => false,
     }
 }
@@ -89,7 +93,8 @@ fn role_tags(r: Role) -> bool
         Role::Loop => false,
         Role::Sweep => false,
         Role::Branch => false,
-        Role::Close => false,
+        Role::EndIf => false,
+        Role::EndLoop => false,
         Role::Tag => true,
     }
 }

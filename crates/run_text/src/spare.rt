@@ -1,7 +1,7 @@
 // How many places past a count hold something: none should, but in a state that a step gives back as it was.
 use case_text::lesser;
-use machine::Ran;
-use machine::Said;
+use course::Ran;
+use course::Said;
 use state::Answer;
 use state::State;
 use state::Stepped;

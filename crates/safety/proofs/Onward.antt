@@ -20,13 +20,12 @@ use Rattle.state.specs.declared.Control.{Control}
 use Rattle.state.specs.declared.Offer.{Offer}
 use Rattle.state.specs.State.{State, fresh}
 use Rattle.state.specs.Meaning.{stateOf}
-use Rattle.machine.specs.Course.{Course, runFrom, courseOf, Comes}
-use Rattle.machine.specs.Parts.{followed, Call, Called, stepsOfAll, courseOfAll, lastOfAll}
-use Rattle.machine.proofs.Parts.{in-parts, all-chain}
-use Rattle.safety.specs.declared.Checked.{Checked}
+use Rattle.course.specs.Course.{Course, runFrom, courseOf}
+use Rattle.course.specs.Parts.{followed, stepsOfAll}
+use Rattle.course.proofs.Parts.{in-parts, all-chain}
 use Rattle.safety.specs.Safety.{Promises, allAllowed}
-use Rattle.safety.specs.Outcome.{Outcome, refusal, judged, checkedOutcome, outcome, numberOf, meaning}
-use Rattle.safety.specs.Outcome.{GoesOn, OnAndOn}
+use Rattle.safety.specs.Outcome.{Outcome, refusal, judged, checkedOutcome, outcome, meaning}
+use Rattle.safety.specs.Outcome.{OnAndOn}
 use Rattle.safety.proofs.Safe.{safe, safe-onward, promised-answers}
 
 -- ---- the number 0 is that of an accepted text alone

@@ -13,7 +13,7 @@ use Rattle.loader.specs.Load
 use Rattle.table.specs.Shape
 use Rattle.rules.specs.Check
 use Rattle.steps.specs.Machine
-use Rattle.machine.specs.Course
+use Rattle.course.specs.Course
 use lib.Ieee
 
 unfoldable pub all : Unit {0}

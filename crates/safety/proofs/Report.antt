@@ -23,12 +23,13 @@ use Rattle.rules.specs.Verdict.{numberOf as ruleNumber, meaning as verdictMeani
 use Rattle.state.specs.declared.Control.{Control}
 use Rattle.state.specs.declared.Offer.{Offer}
 use Rattle.state.specs.State.{fresh}
-use Rattle.machine.specs.declared.Steps.{Steps}
-use Rattle.machine.specs.declared.Ran.{Ran}
+use Rattle.course.specs.declared.Steps.{Steps}
+use Rattle.course.specs.declared.Ran.{Ran}
 use Rattle.state.specs.Meaning.{stateOf, Neat}
 use Rattle.state.specs.declared.State as coded
-use Rattle.machine.specs.Course.{runFrom, allTold, stepsOf, courseOf, allStay, restingAll, ExactRun}
-use Rattle.machine.proofs.Resting.{all-alike, alike-neat}
+use Rattle.course.specs.Course.{runFrom, allTold, stepsOf, courseOf, allStay, restingAll, ExactRun}
+use Rattle.course.proofs.Resting.{all-alike}
+use Rattle.steps.proofs.Resting.{alike-neat}
 use Rattle.table.specs.Shape.{itemsOf}
 use Rattle.safety.specs.Safety.{allAllowed}
 use Rattle.safety.specs.declared.Checked.{Checked}

@@ -14,7 +14,7 @@ use Rattle.state.specs.declared.Control.{Control}
 use Rattle.state.specs.declared.Offer.{Offer}
 use Rattle.state.specs.State.{State, fresh}
 use Rattle.steps.specs.Machine.{step}
-use Rattle.machine.specs.Course.{runFrom}
+use Rattle.course.specs.Course.{runFrom}
 use Rattle.safety.specs.Safety.{Promises, Safe, SafeText, SafeOnward, SafeTextOnward, allAllowed}
 use Rattle.safety.proofs.Laws.{and-l, and-r, and-t}
 use Rattle.safety.proofs.Walk.{Accepted}

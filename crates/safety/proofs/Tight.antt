@@ -9,11 +9,11 @@ use Rattle.argument.specs.declared.Refusal.the-variants as Refusal
 use Rattle.argument.specs.Refusal.{numberOf as formNumber}
 use Rattle.rules.proofs.Tight.{ruleOf}
 use Rattle.rules.specs.declared.Refusal.the-variants as Rule
-use Rattle.machine.specs.declared.Steps.{Steps}
-use Rattle.machine.specs.declared.Ran.{Ran}
-use Rattle.machine.specs.Course.{Course, stepsOf, courseOf}
+use Rattle.course.specs.declared.Steps.{Steps}
+use Rattle.course.specs.declared.Ran.{Ran}
+use Rattle.course.specs.Course.{Course, stepsOf, courseOf}
 use Rattle.state.proofs.Tight.{same-state}
-use Rattle.machine.proofs.Tight.{SizedRun, same-ran}
+use Rattle.course.proofs.Tight.{SizedRun, same-ran}
 use Rattle.safety.specs.declared.Judged.{Judged}
 use Rattle.safety.specs.declared.Judged.the-variants as Judged
 use Rattle.safety.specs.declared.Checked.{Checked}

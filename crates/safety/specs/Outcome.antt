@@ -13,11 +13,11 @@ use Rattle.rules.specs.Check.{Verdict, accepted, refused, verdict}
 use Rattle.rules.specs.Verdict.{numberOf as ruleNumber}
 use Rattle.state.specs.declared.Control.{Control}
 use Rattle.state.specs.declared.Offer.{Offer}
-use Rattle.machine.specs.declared.Ran.{Ran}
+use Rattle.course.specs.declared.Ran.{Ran}
 use Rattle.state.specs.State.{fresh}
 use Rattle.state.specs.Meaning.{stateOf, Neat}
-use Rattle.machine.specs.Course.{Course, runFrom, courseOf, BlankRun}
-use Rattle.machine.specs.Parts.{followed, Call, Called, stepsOfAll, courseOfAll}
+use Rattle.course.specs.Course.{Course, runFrom, courseOf, BlankRun}
+use Rattle.course.specs.Parts.{followed, Call, Called, stepsOfAll, courseOfAll}
 use Rattle.safety.specs.Safety.{Promises, allAllowed}
 use Rattle.safety.specs.declared.Judged.{Judged}
 use Rattle.safety.specs.declared.Judged.the-variants as Judged
@@ -77,7 +77,7 @@ pub record ExactOutcome (text : List ℕ) (ps : List (Control × Offer)) (r : Ch
 
 -- ---- more than 64 steps
 
--- `run` has answered r to the steps ps of an accepted text, and `machine::run` is called as often as one likes, first
+-- `run` has answered r to the steps ps of an accepted text, and `course::run` is called as often as one likes, first
 -- from the state in r and then each time from the state that it handed back: all of it is one run from fresh, and
 -- demand 3 holds of every step
 pub record GoesOn (text : List ℕ) (ps : List (Control × Offer)) (r : Checked) (calls : List Call) : Type 0 where

@@ -20,7 +20,7 @@ use Rattle.state.specs.State.{Status, live, finishedRun, stoppedRun, faultRun, 
 use Rattle.state.specs.State.{running, waiting, finished, stopped, fault, refuse, Step, fresh, Wanted, wantsNothing}
 use Rattle.state.specs.State.{wantedBy, Meets, ready, short, amiss, meets}
 use Rattle.steps.specs.Machine.{abortDue, told, step}
-use Rattle.machine.specs.Course.{runFrom}
+use Rattle.course.specs.Course.{runFrom}
 
 -- ---- an offer of the wrong sort
 

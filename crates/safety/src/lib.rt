@@ -1,16 +1,16 @@
 // Demand 3 for a caller: a script's text is loaded, checked and run from fresh, and the answers are never 30 and never
 // a fault.
 use argument::Refusal;
-use machine::Ran;
-use machine::Said;
-use machine::Steps;
+use course::Ran;
+use course::Said;
+use course::Steps;
 use state::Answer;
 use state::Thing;
 use state::What;
 use table::Table;
 ghost use mathlib.Core.Path.{_≡_};
 ghost use lib.ListN.{length};
-ghost use Rattle.machine.specs.Course.{stepsOf, courseOf};
+ghost use Rattle.course.specs.Course.{stepsOf, courseOf};
 ghost use Rattle.safety.specs.Outcome.{none, refusal, checkedOutcome, ExactOutcome, Fixed};
 ghost use Rattle.safety.specs.Outcome.{numberOf, lineOf, meaning};
 
@@ -65,7 +65,7 @@ fn check_and_run(text: &[u8], table: Table, steps: Steps) -> Checked
     let verdict = rules::check(text, table);
     match verdict {
         rules::Verdict::Accepted => {
-            let ran = machine::run(text, table, state::fresh(), steps, steps.count);
+            let ran = course::run(text, table, state::fresh(), steps, steps.count);
             Checked {
                 judged: Judged::Accepted,
                 ran: ran,

@@ -6,10 +6,10 @@ pub mod Shapes
 pub mod Running
 pub mod Faulting
 pub mod Effecting
-pub mod Surroundings
 pub mod Lookups
 pub mod Taken
 pub mod Keeping
+pub mod Resting
 pub mod Answers
 pub mod Bounded
 pub mod Lasting

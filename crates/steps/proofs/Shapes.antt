@@ -1,6 +1,6 @@
 -- The tests of a state's shape.
 use Prim.Native.Nat.{ℕ, _≤_, _<_}
-use mathlib.Core.Path.{_≡_, refl, sym, _∙_}
+use mathlib.Core.Path.{_≡_, sym, _∙_}
 use mathlib.Core.Bool.{Bool, true, false, _&&_, and-true}
 use mathlib.Core.List.{List}
 use native.Mathlib.Omega.{arith}
@@ -12,10 +12,6 @@ use Rattle.table.specs.declared.Item.{Item}
 use Rattle.state.specs.State.{State, cellsOk}
 use Rattle.steps.specs.Machine.{opensOk, stateOk}
 use Rattle.steps.specs.Code.{Stands}
-
-pub and-assoc : (a b c : Bool) → ((a && b) && c) ≡ (a && (b && c))
-and-assoc true b c = refl
-and-assoc false b c = refl
 
 -- ---- a run in shape
 

@@ -1,7 +1,7 @@
 -- One step: the tag, the faults, the control.
 use Prim.Native.Nat.{ℕ, suc, _+_, _≤_, _<_}
 use mathlib.Core.Path.{_≡_, refl, sym, ap, _∙_}
-use mathlib.Core.Bool.{Bool, true, false, not, _&&_, cond, true≢false}
+use mathlib.Core.Bool.{Bool, true, false, not, _&&_, cond, true≢false, and-assoc}
 use mathlib.Core.List.{List, [], _∷_}
 use mathlib.Core.Option.{Option, none, some}
 use native.Mathlib.Nat.{zero-add}
@@ -24,7 +24,6 @@ use Rattle.state.specs.Meaning.{faultNumber}
 use Rattle.steps.specs.Machine.{inside, isNone, tagFrom, ahead, astray, tooDeep, faults, orFault, served, run}
 use Rattle.steps.specs.Machine.{tries, badOf, atItem, atEnd, reads}
 use Rattle.steps.specs.Code.{chosenAt, ninth}
-use Rattle.steps.proofs.Shapes.{and-assoc}
 
 -- ---- the first tag
 

@@ -2,7 +2,7 @@
 -- where a run in shape stands.
 use Prim.Native.Nat.{ℕ, suc, _≤_, _<_}
 use mathlib.Core.Path.{_≡_}
-use mathlib.Core.Bool.{Bool, true, false, not, _&&_, _||_, cond}
+use mathlib.Core.Bool.{Bool, true, false, not, _&&_, cond}
 use mathlib.Core.List.{List, [], _∷_, _++_}
 use mathlib.Core.Option.{Option, none, some}
 use lib.Dec.{eqb, ltb, leb}
@@ -13,9 +13,7 @@ use Rattle.table.specs.declared.Item.{Item}
 use Rattle.table.specs.declared.Item.the-variants as Item
 use Rattle.table.specs.declared.Operand.{Operand}
 use Rattle.table.specs.declared.Operand.the-variants as Operand
-use Rattle.table.specs.Item.{isOpen, isBranch, isClose, isSweep, opensA}
-use Rattle.mates.specs.declared.Mark.{Mark}
-use Rattle.mates.specs.Code.{Seen}
+use Rattle.table.specs.Item.{isOpen, isSweep, opensA}
 use Rattle.mates.specs.Mates.{boxesAt, belongs, closeOf, itemAt, past}
 use Rattle.state.specs.declared.Cell.{Cell}
 use Rattle.state.specs.declared.Cell.the-variants as Cell
@@ -42,7 +40,6 @@ use Rattle.effect.specs.declared.Tried.{Tried}
 use Rattle.effect.specs.declared.Tried.the-variants as Tried
 use Rattle.operands.specs.declared.Written.{Written}
 use Rattle.operands.specs.declared.Written.the-variants as Written
-use Rattle.effect.specs.Code as effects
 use Rattle.operands.specs.Code as operands
 use Rattle.steps.specs.Machine as rules
 use Rattle.steps.specs.Machine.{tried, otherwise, inside, anyOpen, unwind, astray, isNone, again, moved, told}
@@ -162,31 +159,6 @@ pub record Surrounds (xs : List Item) (s : Spot) (x : Item) (w : Around) : Type 
   pub close : w .close ≡ closeTop xs (about xs s x)
   pub sweep : isOpen x ≡ false → w .sweep ≡ sweepTop xs (about xs s x)
   pub outside : x ≡ Item.Break → tops (s .boxes) (w .outside) ≡ outer (about xs s x)
-
--- what the code's readers of marks say, of every text with these marks: around an opening mark, around a branch or
--- closing mark, around a breakloop, and around the item x
-abbrev pub AtOpen : List Mark → Spot → Around → Type 0
-AtOpen ms s w = Seen ms (λ xs. (h : Head) → Surrounds xs s (Item.Open h) w)
-
-abbrev pub AtMark : List Mark → Spot → Around → Type 0
-AtMark ms s w =
-    s .depth ≤ 8
-    → Seen ms (λ xs. (x : Item) → (isBranch x || isClose x) ≡ true → itemAt xs (s .at) ≡ x → Surrounds xs s x w)
-
-abbrev pub AtBreak : List Mark → Spot → Around → Type 0
-AtBreak ms s w = s .depth ≤ 8 → Seen ms (λ xs. Surrounds xs s Item.Break w)
-
-abbrev pub AtItem : List Mark → Spot → Item → Around → Type 0
-AtItem ms s x w =
-    s .depth ≤ 8
-    → Seen ms (λ xs. (w .sweeping ≡ anyOpen isSweep xs (openAt s)) × (itemAt xs (s .at) ≡ x → Surrounds xs s x w))
-
--- and what the item x at j leads to, tried with its cells k for the box that opens at p
-abbrev pub TriedAs : List Mark → Item → Cells → ℕ → ℕ → Tried → Type 0
-TriedAs ms x k p j r =
-    Seen ms (λ xs. (vs : Vars) (o : rules.Chosen) → itemAt xs j ≡ x → j < 128
-    → operandCell vs (operands.operandsOf x .a) ≡ k .a → operandCell vs (operands.operandsOf x .b) ≡ k .b
-    → triedBy r o ≡ triedAt xs vs p j o)
 
 abbrev pub orLast : ℕ → Option ℕ → ℕ
 orLast n none = n

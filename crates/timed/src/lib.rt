@@ -1,8 +1,8 @@
 // What the benches time: bytes go in, and a number comes back that hangs on the work.
+use course::Steps;
+use course::Told;
 use frame::InstrumentNumber;
 use frame::ReadFrame;
-use machine::Steps;
-use machine::Told;
 use rules::Verdict;
 use state::Control;
 use state::Offer;
@@ -127,10 +127,10 @@ fn steps_of(letters: &[u8]) -> Steps {
     }
 }
 
-// A run after its first steps. That `machine::run` is called from here too keeps it whole: within its one caller the
+// A run after its first steps. That `course::run` is called from here too keeps it whole: within its one caller the
 // compiler would leave out the answers, which nobody reads.
 fn begun(text: &[u8], table: Table, first: &[u8]) -> State {
-    let ran = machine::run(text, table, state::fresh(), steps_of(first), MOST_STEPS);
+    let ran = course::run(text, table, state::fresh(), steps_of(first), MOST_STEPS);
     let m = ran.state;
     m
 }
@@ -158,7 +158,7 @@ pub extern "C" fn timed_steps(text: &[u8], first: &[u8], letters: &[u8], times: 
     handed
 }
 
-// The same by `machine::run`, so many times the 64 letters.
+// The same by `course::run`, so many times the 64 letters.
 #[no_mangle]
 pub extern "C" fn timed_runs(text: &[u8], first: &[u8], letters: &[u8], times: usize) -> usize {
     let loaded = loader::load(text);
@@ -169,7 +169,7 @@ pub extern "C" fn timed_runs(text: &[u8], first: &[u8], letters: &[u8], times: u
     let mut i: usize = 0;
     while i < times {
         table.end = i;
-        let ran = machine::run(text, table, m, row, MOST_STEPS);
+        let ran = course::run(text, table, m, row, MOST_STEPS);
         let next = ran.state;
         m = next;
         handed = std::num::wrapping_add_usize(handed, ran.handed);

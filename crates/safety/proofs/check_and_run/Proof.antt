@@ -1,11 +1,10 @@
 -- `safety::check_and_run` meets its contract: what the checker says, and what the run comes to where it accepts.
 use borrow.Author.Needs.{needs}
 use lib.ListN.{length}
-use mathlib.Core.List.{List}
 use mathlib.Core.Path.{_≡_, sym, ap, _∙_}
 use Prim.Native.Nat.{ℕ}
-use Rattle.machine.specs.Course.{Course, stepsOf, runFrom}
-use Rattle.machine.specs.declared.Steps.{Steps}
+use Rattle.course.specs.Course.{Course, stepsOf, runFrom}
+use Rattle.course.specs.declared.Steps.{Steps}
 use Rattle.rules.specs.declared.Refusal.{Refusal as Rule}
 use Rattle.rules.specs.declared.Verdict.the-variants as Verdict
 use Rattle.rules.specs.Verdict.{numberOf as ruleNumber}

@@ -4,7 +4,7 @@ use mathlib.Core.Path.{refl, ap}
 use mathlib.Core.List.{[]}
 use borrow.Author.Needs.{needs}
 use Rattle.state.specs.State.{State}
-use Rattle.machine.specs.Course.{Course}
+use Rattle.course.specs.Course.{Course}
 use Rattle.safety.proofs.not_run.Statement.{statement}
 use Rattle.safety.proofs.not_run.Tie as tie
 

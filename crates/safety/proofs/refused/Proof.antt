@@ -1,7 +1,7 @@
 -- `safety::refused` meets its contract.
 use mathlib.Core.Path.{ap}
 use borrow.Author.Needs.{needs}
-use Rattle.machine.specs.Course.{Course}
+use Rattle.course.specs.Course.{Course}
 use Rattle.safety.specs.declared.Judged.{Judged}
 use Rattle.safety.specs.Outcome.{Outcome, numberOf, lineOf}
 use Rattle.safety.proofs.refused.Statement.{statement}

@@ -7,7 +7,7 @@ use mathlib.Core.Path.{_≡_, sym, _∙_}
 use Prim.Native.Nat.{ℕ}
 use Rattle.argument.specs.declared.Refusal.{Refusal}
 use Rattle.argument.specs.Refusal.{numberOf as formNumber}
-use Rattle.machine.specs.Course.{stepsOf}
+use Rattle.course.specs.Course.{stepsOf}
 use Rattle.safety.proofs.Report.{form-yes, form-no, exact}
 use Rattle.safety.proofs.run.Statement.{statement}
 use Rattle.safety.proofs.run.Tie as tie

@@ -6,11 +6,11 @@ use Rattle.mates.proofs.pass.fits_top.Tie as tie
 returns : tie.Need-returns
 returns c = simp (eq-eqb _ _ (c .if1 .taken))
 
-fits-sort-requires : tie.Need-fits-sort-requires
-fits-sort-requires c κs = search needs
+fits-role-requires : tie.Need-fits-role-requires
+fits-role-requires c κs = search needs
 
 returns-2 : tie.Need-returns-2
-returns-2 c = rw (ne-eqb _ _ (c .before .if1 .left)) (c .fits-sort .ensures)
+returns-2 c = rw (ne-eqb _ _ (c .before .if1 .left)) (c .fits-role .ensures)
 
 pub fits-top-spec : {M : Type 1} → statement M
-fits-top-spec = tie.close (tie.spec returns fits-sort-requires returns-2)
+fits-top-spec = tie.close (tie.spec returns fits-role-requires returns-2)

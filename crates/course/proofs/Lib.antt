@@ -1,0 +1,4 @@
+pub mod Tight
+pub mod Turns
+pub mod Resting
+pub mod Parts

@@ -1,0 +1,12 @@
+use borrow.Author.Tests.{le-leb, lt-leb}
+use Rattle.lookup.proofs.pieces.at_most.Statement.{statement}
+use Rattle.lookup.proofs.pieces.at_most.Tie as tie
+
+returns : tie.Need-returns
+returns c = rw (le-leb (c .before .args .n) (c .before .args .most) (c .if1 .taken))
+
+returns-2 : tie.Need-returns-2
+returns-2 c = rw (lt-leb (c .before .args .n) (c .before .args .most) (c .if1 .left))
+
+pub at-most-spec : {M : Type 1} → statement M
+at-most-spec = tie.close (tie.spec returns returns-2)
