@@ -1,15 +1,16 @@
 -- Steps taken one after the other: what is answered so far, and what is still to come.
 use Prim.Native.Nat.{ℕ, zero, suc, _+_, _-_, _*_, _≤_, _<_, zero-le}
 use mathlib.Core.Path.{_≡_, refl, sym, ap, _∙_}
-use mathlib.Core.Bool.{Bool, true, false, _&&_, cond, and-assoc, and-true}
+use mathlib.Core.Bool.{Bool, true, false, _&&_, and-assoc, and-true}
 use mathlib.Core.List.{List, [], _∷_, _++_, append-assoc, append-nil}
 use native.Mathlib.Nat.{not-suc-le-zero, le-of-suc-le-suc}
 use native.Mathlib.Numerals.{add-one}
 use native.Mathlib.Omega.{arith}
-use lib.Dec.{leb}
-use lib.ListN.{length, getD, set, take, drop, replicate, length-set, length-take}
-use lib.Seq.{take-all, take-take, take-suc-set, drop-set-lt}
-use borrow.Author.Tests.{leb-true, leb-false}
+use lib.ListN.{length, getD, set, take, drop, replicate, length-set}
+use lib.Seq.{take-all, take-suc-set, drop-set-lt}
+use Rattle.laws.specs.Least.{least}
+use Rattle.laws.proofs.Least.{least-most, least-takes}
+use Rattle.laws.proofs.Lists.{drop-step}
 use Rattle.table.specs.declared.Table.{Table}
 use Rattle.table.specs.Shape.{inShape, itemsOf}
 use Rattle.state.specs.State as rules
@@ -28,7 +29,7 @@ use Rattle.state.specs.declared.Var.{Var}
 use Rattle.state.specs.declared.Answer.{Answer}
 use Rattle.state.specs.declared.State as coded
 use Rattle.steps.specs.Machine.{stateOk, step}
-use Rattle.steps.specs.Code.{stepKnown, least, stateWith, LeftAs}
+use Rattle.steps.specs.Code.{stepKnown, stateWith, LeftAs}
 use Rattle.course.specs.Course.{Told, Said, Steps, Ran, Course, andThen, runFrom, allTold, stepsOf, answersOf}
 use Rattle.course.specs.Course.{countsOf, allStay, noSaid, courseOf, ExactRun}
 use Rattle.steps.proofs.Shapes.{and-l, and-r}
@@ -57,12 +58,6 @@ module _ {A : Type 0} where
   drop-take (suc n) [] = refl
   drop-take (suc n) (x ∷ l) = drop-take n l
 
-  drop-step : (i : ℕ) (l : List A) (x : A) (xs : List A) → drop i l ≡ x ∷ xs → drop (suc i) l ≡ xs
-  drop-step zero [] x xs e = cc
-  drop-step zero (y ∷ l) x xs e = cc
-  drop-step (suc i) [] x xs e = cc
-  drop-step (suc i) (y ∷ l) x xs e = drop-step i l x xs e
-
 told-length : (ts : List Told) → length (allTold ts) ≡ length ts
 told-length [] = refl
 told-length (t ∷ ts) = ap suc (told-length ts)
@@ -88,20 +83,6 @@ stays-more k (x ∷ l) a =
     ap (λ (b : Bool). stays k x && b) (stays-more k l a) ∙ sym (and-assoc (stays k x) (allStay k l) (stays k a))
 
 -- ---- how many steps
-
-pub least-few : (n k : ℕ) → least n k ≤ k
-least-few n k = go (leb n k) refl
-  where
-    go : (b : Bool) → leb n k ≡ b → cond b n k ≤ k
-    go true e = leb-true n k e
-    go false e = omega arith
-
-least-takes : {A : Type 0} (n k : ℕ) (l : List A) → take (least n k) l ≡ take n (take k l)
-least-takes {A} n k l = go (leb n k) refl
-  where
-    go : (b : Bool) → leb n k ≡ b → take (cond b n k) l ≡ take n (take k l)
-    go true e = sym (take-take n k l (leb-true n k e))
-    go false e = sym (take-all n (take k l) (omega (arith, length-take k l, leb-false n k e)))
 
 pub told-few : (n k : ℕ) (ts : List Told) → length ts ≡ 64
     → take (least (least n k) 64) (allTold ts) ≡ take n (take k (allTold ts))
@@ -351,7 +332,7 @@ pub rounds-start : {g : Stage} {m₀ : coded.State} {a n : ℕ} (budget : ℕ) (
     → Rounds (take budget (stepsOf steps)) n (steps .at) m₀ 0 (replicate 64 noSaid) (replicate 512 blankThing) 0 true g
 rounds-start {g} {m₀} {a} {n} budget steps w stands p q l = record {
   come =
-      come-start (g .size) (g .table) (g .shaped) n (steps .at) m₀ (runAt g) (rw q (least-few a 64))
+      come-start (g .size) (g .table) (g .shaped) n (steps .at) m₀ (runAt g) (rw q (least-most a 64))
       (w .known ∙ ap (λ (z : State). inShape (g .size) (g .table) && stateOk (itemsOf (g .table)) z) stands) stands;
   head = w;
   long = l;

@@ -4,6 +4,7 @@ use Prim.Native.Nat.{ℕ, _+_, _-_}
 use mathlib.Core.Bool.{Bool, true, false, not, _&&_, _||_, cond}
 use lib.Dec.{eqb, ltb, leb}
 use lib.ListN.{getD, set}
+use Rattle.laws.specs.Least.{least}
 use Rattle.value.specs.Arithmetic.{finite, calculated, checked, compares}
 use Rattle.table.specs.ReadWrite.{breaksOrder}
 use Rattle.state.specs.State as rules
@@ -179,9 +180,6 @@ abbrev pub stopBy : Spot → Stop → Effect
 stopBy s q = still s (Status.Stopped q) (Answer.Stopped q)
 
 -- ---- src/boxes.rt: how many boxes a step leaves
-
-abbrev pub least : ℕ → ℕ → ℕ
-least n k = cond (leb n k) n k
 
 abbrev pub boxesLeft : Bool → ℕ → ℕ → ℕ
 boxesLeft b d h = cond (b && eqb h 0) (least d 8) 0

@@ -1,10 +1,11 @@
 // How many boxes a step leaves.
 ghost use mathlib.Core.Path.{_≡_};
+ghost use Rattle.laws.specs.Least.{least};
 ghost use Rattle.effect.specs.Code as code;
 use super::BOXES;
 
 fn at_most(n: usize, most: usize) -> usize
-    ensures { λ r. ⌜ r ≡ code.least n most ⌝ }
+    ensures { λ r. ⌜ r ≡ least n most ⌝ }
 {
     if n <= most { n } else { most }
 }

@@ -9,6 +9,8 @@ use lib.Dec.{eqb}
 use lib.ListN.{length, getD, set, take, drop, replicate, length-set, length-append}
 use lib.Seq.{take-suc-set, drop-set-lt}
 use borrow.Author.Tests.{eqb-true, le-leb}
+use Rattle.laws.specs.Least.{least}
+use Rattle.laws.proofs.Lists.{drop-step}
 use Rattle.table.specs.declared.Item.{Item}
 use Rattle.mates.specs.declared.Mark.{Mark}
 use Rattle.mates.specs.Code.{Marked, Seen}
@@ -41,12 +43,6 @@ set-front (y ∷ l) zero x r e =
     rw k
 set-front (y ∷ l) (suc h) x r e = ap {B = List _} (λ z. y ∷ z) (set-front l h x r e)
 
-drop-next : {A : Type 0} (l : List A) (h : ℕ) (x : A) (r : List A) → drop h l ≡ x ∷ r → drop (suc h) l ≡ r
-drop-next [] zero x r e = cc
-drop-next [] (suc h) x r e = cc
-drop-next (y ∷ l) zero x r e = cc
-drop-next (y ∷ l) (suc h) x r e = drop-next l h x r e
-
 module _ {n : ℕ} {hs : List Thing} {h : ℕ} {os : List Out} (w : Laid n hs h os) (q : h < n) where
   some-left : drop h (outsOf hs) ≡ nought ∷ replicate (n - suc h) nought
   some-left =
@@ -75,7 +71,7 @@ module _ {n : ℕ} {hs : List Thing} {h : ℕ} {os : List Out} (w : Laid n hs h 
     blank =
         rw (add-one, outs-set hs h (record { what = v }))
         (drop-set-lt (suc h) (outsOf hs) h (outOf v) (omega arith)
-        ∙ drop-next (outsOf hs) h nought (replicate (n - suc h) nought) some-left);
+        ∙ drop-step h (outsOf hs) nought (replicate (n - suc h) nought) some-left);
   }
 
   lay : (v : What) (c : ℕ) → c ≡ countOf v → Laid n (set hs h (record { what = v })) (h + c) (os ++ handed v)
@@ -142,7 +138,7 @@ module _ {n : ℕ} {hs : List Thing} {h₀ h : ℕ} (os : List Out) (xs : List I
 
       go : (b : Bool) → (e .leaves && eqb (h - h₀) 0) ≡ b
           → Leaving n xs (s .boxes) (os ++ handsOut (leaveOuts xs (openAt s)) e) h₀ hs h
-          (cond b (effects.least (s .depth) 8) 0)
+          (cond b (least (s .depth) 8) 0)
       go true z =
           let deep = d (and-l (e .leaves) (eqb (h - h₀) 0) z) in
           let none : h - h₀ ≡ 0 = eqb-true (h - h₀) 0 (and-r (e .leaves) (eqb (h - h₀) 0) z) in

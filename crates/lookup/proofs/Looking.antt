@@ -6,6 +6,8 @@ use mathlib.Core.List.{List, _++_}
 use native.Mathlib.Omega.{arith}
 use lib.ListN.{length, getD, take, length-append}
 use lib.Seq.{length-take-le}
+use Rattle.laws.specs.Least.{least}
+use Rattle.laws.proofs.Least.{least-most}
 use Rattle.laws.proofs.Bools.{no′}
 use Rattle.table.specs.declared.Item.{Item}
 use Rattle.table.specs.declared.Table.{Table}
@@ -37,10 +39,10 @@ use Rattle.state.specs.declared.Var.{Var}
 use Rattle.state.specs.declared.State as coded
 use Rattle.steps.specs.Machine.{leaveOuts, stateOk}
 use Rattle.steps.specs.Code.{stateWith, stepOf, operandCell, chosenOf, triedBy, openAt, Here}
-use Rattle.steps.specs.Code.{LooksUp, stepKnown, least}
+use Rattle.steps.specs.Code.{LooksUp, stepKnown}
 use Rattle.steps.proofs.Effecting.{effect-is}
 use Rattle.steps.proofs.Lookups.{reads-all, reads-first, reads-second, mates, tried-all, first-tried, count-is}
-use Rattle.steps.proofs.Lookups.{items-few, item-clamped, tag-is, goes-on, tried-more, item-here, least-most}
+use Rattle.steps.proofs.Lookups.{items-few, item-clamped, tag-is, goes-on, tried-more, item-here}
 use Rattle.steps.proofs.Shapes.{and-r, shape-stands}
 use Rattle.lookup.specs.Lookup.{stateIn, spotOf, aroundIn, triedIn}
 use Rattle.lookup.proofs.Laying.{Laid}

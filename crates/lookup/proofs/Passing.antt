@@ -7,6 +7,8 @@ use native.Mathlib.Numerals.{add-one}
 use native.Mathlib.Omega.{arith}
 use lib.ListN.{length, set, take, drop, replicate, length-set, drop-of-length-le}
 use lib.Seq.{take-all}
+use Rattle.laws.specs.Least.{least}
+use Rattle.laws.proofs.Least.{least-below}
 use Rattle.table.specs.declared.Table.{Table}
 use Rattle.table.specs.Shape.{slotAt, itemsOf, itemOk, itemsOk, inShape}
 use Rattle.table.proofs.Items.{next-item}
@@ -17,8 +19,7 @@ use Rattle.mates.specs.declared.Role.the-variants as Role
 use Rattle.mates.specs.Code.{Marked, roleOf, rolesOf, marksOf}
 use Rattle.mates.proofs.Roles.{roles-more}
 use Rattle.mates.proofs.Scanned.{marked}
-use Rattle.steps.specs.Code.{least}
-use Rattle.steps.proofs.Lookups.{count-is, items-few, item-here, least-below}
+use Rattle.steps.proofs.Lookups.{count-is, items-few, item-here}
 use Rattle.lookup.specs.Lookup.{sizesOk}
 
 -- the marks are the table's, and b says whether it is in shape for a script of so many bytes

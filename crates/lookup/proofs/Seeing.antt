@@ -5,6 +5,7 @@ use mathlib.Core.Bool.{Bool, true, false, _||_, cond, false≢true}
 use mathlib.Core.List.{List, [], _∷_}
 use lib.ListN.{length, getD}
 use borrow.Author.Tests.{le-leb}
+use Rattle.laws.specs.Least.{least}
 use Rattle.laws.proofs.Bools.{no}
 use Rattle.table.specs.declared.Head.{Head}
 use Rattle.table.specs.declared.Item.{Item}
@@ -27,7 +28,7 @@ use Rattle.effect.specs.declared.Tried.the-variants as Tried
 use Rattle.effect.specs.Code as effects
 use Rattle.steps.specs.Machine as rules
 use Rattle.steps.specs.Machine.{anyOpen, unwind, leaveOuts, opensOk, stateOk}
-use Rattle.steps.specs.Code.{openAt, aboutOf, Surrounds, liveState, least, handed, operandCell, triedBy, triedAt}
+use Rattle.steps.specs.Code.{openAt, aboutOf, Surrounds, liveState, handed, operandCell, triedBy, triedAt}
 use Rattle.steps.proofs.Lookups.{tried-is}
 use Rattle.steps.proofs.Placed.{fault-open, fault-mark, none-past}
 use Rattle.lookup.specs.Lookup.{opensIn, stateIn, heldIn, sweeps, toLoop, leaveOf, alone, aroundOpen, aroundMark}

@@ -4,6 +4,7 @@ use mathlib.Core.Bool.{Bool, true, false}
 use mathlib.Core.List.{List}
 use mathlib.Core.Path.{_≡_, refl, sym, _∙_}
 use lib.ListN.{length}
+use Rattle.laws.specs.Least.{least}
 use Rattle.table.specs.declared.Item.{Item}
 use Rattle.mates.specs.declared.Marks.{Marks}
 use Rattle.state.specs.declared.Status.{Status}
@@ -15,7 +16,7 @@ use Rattle.operands.specs.declared.Cells.{Cells}
 use Rattle.effect.specs.declared.Around.{Around}
 use Rattle.effect.specs.declared.Spot.{Spot}
 use Rattle.effect.specs.declared.Tried.{Tried}
-use Rattle.steps.specs.Code.{least, countOf, LeftAs}
+use Rattle.steps.specs.Code.{countOf, LeftAs}
 use Rattle.lookup.specs.Lookup.{sizesOk, stateIn, spotOf, leaveOf, aroundIn, triedIn}
 
 -- ---- the state's parts

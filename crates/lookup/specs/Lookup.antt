@@ -4,6 +4,7 @@ use mathlib.Core.Bool.{Bool, true, false, not, _&&_, _||_, cond}
 use mathlib.Core.List.{List, [], _∷_}
 use lib.Dec.{eqb, ltb, leb}
 use lib.ListN.{length}
+use Rattle.laws.specs.Least.{least}
 use Rattle.table.specs.declared.Item.{Item}
 use Rattle.table.specs.declared.Item.the-variants as Item
 use Rattle.table.specs.Item.{isLoop, isSweep}
@@ -22,7 +23,6 @@ use Rattle.effect.specs.declared.Spot.{Spot}
 use Rattle.effect.specs.declared.Tried.{Tried}
 use Rattle.effect.specs.declared.Tried.the-variants as Tried
 use Rattle.effect.specs.Code.{tryMate}
-use Rattle.steps.specs.Code.{least}
 
 -- ---- the state's shape
 

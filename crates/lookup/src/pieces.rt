@@ -1,6 +1,7 @@
 // The state's parts: where it stands, what is put together after steps, and how many there are of something.
 ghost use mathlib.Core.Path.{_≡_};
-ghost use Rattle.steps.specs.Code.{countOf, LeftAs, least};
+ghost use Rattle.laws.specs.Least.{least};
+ghost use Rattle.steps.specs.Code.{countOf, LeftAs};
 ghost use Rattle.lookup.specs.Lookup.{spotOf};
 use effect::Spot;
 use state::State;

@@ -1,8 +1,9 @@
 // The pass over a row of roles: the marks of the items, found with a row of the boxes that are open.
 ghost use mathlib.Core.Path.{_≡_};
 ghost use Prim.Native.Nat.{_<_};
+ghost use Rattle.laws.specs.Least.{least};
 ghost use Rattle.mates.specs.Code.{narrowed, roleOf, fitsRole, topPlace, fitsIn, depthPast, ownerOf, markFor};
-ghost use Rattle.mates.specs.Code.{sortIn, openedBy, least, marksOf};
+ghost use Rattle.mates.specs.Code.{sortIn, openedBy, marksOf};
 use super::Mark;
 use super::Marks;
 use super::Open;

@@ -9,6 +9,8 @@ use native.Mathlib.Omega.{arith}
 use lib.Dec.{ltb, leb}
 use lib.ListN.{length, getD, set, drop, length-set}
 use borrow.Author.Tests.{le-leb, leb-true, leb-false, ltb-true, ltb-false}
+use Rattle.laws.specs.Least.{least}
+use Rattle.laws.proofs.Least.{least-below, least-most}
 use Rattle.laws.proofs.Bools.{no′}
 use Rattle.table.specs.declared.Condition.{Condition}
 use Rattle.table.specs.declared.Operand.{Operand}
@@ -46,7 +48,6 @@ use Rattle.state.specs.declared.Var.{Var}
 use Rattle.steps.specs.Machine as rules
 use Rattle.steps.specs.Machine.{choose, tried, tagFrom}
 use Rattle.steps.specs.Code.{wrote, operandCell, Reads, chosenOf, triedBy, triedAt, chosenAt, liveState, orLast}
-use Rattle.steps.specs.Code.{least}
 use Rattle.steps.proofs.Chain.{item-is, count-items, choose-more, choose-none}
 use Rattle.steps.proofs.Effecting.{after-is, missing-two, wrong-two, holds-two}
 use Rattle.steps.proofs.Stepping.{tag-hit, tag-miss, tag-none}
@@ -136,24 +137,6 @@ module _ (l : List Var) (h : length l ≡ 32) where
           ∙ sym (set-past (cellsOf l) n c (omega (arith, vars-length l, h, ltb-false n 32 e))))
 
 -- ---- the table
-
-pub least-below : (j n k : ℕ) → j < least n k → (j < n) × (j < k)
-least-below j n k h = go (leb n k) refl
-  where
-    go : (b : Bool) → leb n k ≡ b → (j < n) × (j < k)
-    go true e =
-        let z : j < n = rw e at h in
-        (z, omega (arith, leb-true n k e))
-    go false e =
-        let z : j < k = rw e at h in
-        (omega (arith, leb-false n k e), z)
-
-pub least-most : (n k : ℕ) → least n k ≤ k
-least-most n k = go (leb n k) refl
-  where
-    go : (b : Bool) → leb n k ≡ b → cond b n k ≤ k
-    go true e = leb-true n k e
-    go false e = omega arith
 
 all-items : (n : ℕ) (ss : List Slot) → length ss ≤ n → length (itemsIn n ss) ≡ length ss
 all-items zero [] h = refl

@@ -213,11 +213,6 @@ pub record Settled (before : coded.State) (s : Step) (x : Stepped) : Type 0 wher
   pub blank : Blank x
   pub few : x .count ≤ 8
 
--- ---- how many steps are taken
-
-abbrev pub least : ℕ → ℕ → ℕ
-least n k = cond (leb n k) n k
-
 -- ---- what is left after steps
 
 abbrev pub countOf : What → ℕ

@@ -6,13 +6,14 @@ use mathlib.Core.Path.{_≡_}
 use native.Mathlib.Omega.{arith}
 use lib.ListN.{length, take, length-map}
 use borrow.Author.Needs.{needs}
+use Rattle.laws.specs.Least.{least}
+use Rattle.laws.proofs.Least.{least-most}
 use Rattle.effect.specs.declared.Effect.{Effect}
-use Rattle.steps.specs.Code.{least}
 use Rattle.course.specs.Course.{stepsOf}
 use Rattle.lookup.proofs.Laying.{Leaves, counted-few, TwoLaid, two-laid, leaves-start, leaves-room, leaves-on}
 use Rattle.lookup.proofs.Looking.{Stage, stage, stageOf, Turning, stands-at, turning-by, Trying, trying-starts}
 use Rattle.lookup.proofs.Looking.{mate-below, trying-on, EffectedBy, effected}
-use Rattle.steps.proofs.Lookups.{Below, places-below, written-below, least-most, TwoWritten, both-written}
+use Rattle.steps.proofs.Lookups.{Below, places-below, written-below, TwoWritten, both-written}
 use Rattle.lookup.proofs.Making.{unasked, made}
 use Rattle.lookup.proofs.Passing.{Passed, pass-starts, pass-below, pass-more, pass-ends}
 use Rattle.course.proofs.Turns.{Within, Rounds, thingsOf, handedOf, rounds-start, rounds-ready, rounds-on}

@@ -1,8 +1,8 @@
 -- `any_sweep` walks the open boxes from the innermost outwards, and stops at a measuring loop. Assumes nothing.
 use mathlib.Core.Path.{sym, _∙_}
 use borrow.Author.Needs.{needs}
-use Rattle.steps.specs.Code.{least}
-use Rattle.steps.proofs.Lookups.{least-most}
+use Rattle.laws.specs.Least.{least}
+use Rattle.laws.proofs.Least.{least-most}
 use Rattle.lookup.specs.Lookup.{sweeps}
 use Rattle.lookup.proofs.Walks.{Walk, walk-starts, walk-stops, walk-on, walk-ends}
 use Rattle.lookup.proofs.around.any_sweep.Statement.{statement}

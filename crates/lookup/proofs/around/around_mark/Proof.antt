@@ -5,10 +5,10 @@ use mathlib.Core.List.{[], _∷_}
 use native.Mathlib.Omega.{arith}
 use borrow.Author.Needs.{needs}
 use lib.ListN.{getD}
+use Rattle.laws.proofs.Least.{least-most}
 use Rattle.state.specs.Meaning.{tops}
 use Rattle.state.proofs.Boxes.{tops-top}
 use Rattle.effect.specs.declared.Spot.{Spot}
-use Rattle.steps.proofs.Lookups.{least-most}
 use Rattle.lookup.specs.Lookup.{heldIn}
 use Rattle.lookup.proofs.around.around_mark.Statement.{statement}
 use Rattle.lookup.proofs.around.around_mark.Tie as tie

@@ -5,10 +5,10 @@ use mathlib.Core.List.{List, _∷_}
 use native.Mathlib.Omega.{arith}
 use borrow.Author.Needs.{needs}
 use lib.ListN.{getD}
+use Rattle.laws.specs.Least.{least}
+use Rattle.laws.proofs.Least.{least-most}
 use Rattle.state.specs.Meaning.{tops}
 use Rattle.state.proofs.Boxes.{tops-top}
-use Rattle.steps.specs.Code.{least}
-use Rattle.steps.proofs.Lookups.{least-most}
 use Rattle.lookup.specs.Lookup.{toLoop}
 use Rattle.lookup.proofs.Walks.{Walk, walk-starts, walk-stops, walk-on, walk-ends}
 use Rattle.lookup.proofs.around.loop_depth.Statement.{statement}
