@@ -120,6 +120,7 @@ fn around_break(marks: Marks, sweeping: bool, s: Spot) -> Around
     }
 }
 
+// What the marks say around the item x, where the run stands at it.
 pub fn around_of(marks: Marks, s: Spot, x: Item) -> Around
     ensures { λ r. ⌜ r ≡ aroundIn (marks .at) s x ⌝ }
 {
@@ -135,7 +136,7 @@ pub fn around_of(marks: Marks, s: Spot, x: Item) -> Around
     }
 }
 
-// The item x at j, where it belongs to the box that opens at p.
+// What the item x at j leads to, tried where it belongs to the box that opens at p.
 pub fn try_at(marks: Marks, x: Item, k: Cells, p: usize, j: usize) -> Tried
     ensures { λ r. ⌜ r ≡ triedIn (marks .at) x k p j ⌝ }
 {

@@ -9,12 +9,14 @@ use state::Status;
 use state::Var;
 use state::What;
 
+// The lesser of the two.
 pub fn at_most(n: usize, most: usize) -> usize
     ensures { λ r. ⌜ r ≡ least n most ⌝ }
 {
     if n <= most { n } else { most }
 }
 
+// Where the run of a state stands.
 pub fn spot_of(m: State) -> Spot
     ensures { λ r. ⌜ r ≡ spotOf m ⌝ }
 {
@@ -49,7 +51,7 @@ pub fn state_after(stayed: bool, before: State, s: Spot, status: Status, vars: [
     })
 }
 
-// How many things it is.
+// Whether it is a thing, counted: 1, or 0 where it is none.
 pub fn things_in(w: What) -> usize
     ensures { λ r. ⌜ r ≡ countOf w ⌝ }
 {

@@ -12,7 +12,7 @@ const ITEMS: usize = 128;
 
 const NAMES: usize = 32;
 
-// So many items and names are allowed.
+// Whether a table may have so many items and names.
 pub fn sizes_ok(items: usize, names: usize) -> bool
     ensures { λ r. ⌜ r ≡ sizesOk items names ⌝ }
 {
@@ -47,7 +47,7 @@ fn opens_ok(marks: Marks, n: usize, m: State) -> bool
     true
 }
 
-// The state is in shape, for a text of n items.
+// Whether the state is in shape, for a text of n items.
 pub fn state_ok(marks: Marks, n: usize, m: State) -> bool
     ensures { λ r. ⌜ r ≡ stateIn (marks .at) n m ⌝ }
 {
