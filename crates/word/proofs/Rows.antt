@@ -3,52 +3,15 @@ use borrow.Author.Tests.{ltb-true, ltb-false}
 use mathlib.Core.Path.{_≡_, refl, sym, _∙_, ap}
 use mathlib.Core.Bool.{Bool, true, false, _&&_, cond}
 use mathlib.Core.List.{List, [], _++_}
-use Prim.Native.Nat.{ℕ, suc, _+_, _-_, _≤_, _<_}
+use Prim.Native.Nat.{ℕ, suc, min, _+_, _-_, _≤_, _<_}
 use native.Mathlib.Numerals.{add-one}
 use native.Mathlib.Omega.{arith}
 use lib.Dec.{ltb, eqb}
 use lib.ListN.{length, take, drop, getD, set, replicate, drop-of-length-le, length-set}
 use lib.Seq.{drop-cons, take-all, take-length, length-take-le, set-at, take-suc, append-snoc}
-use Rattle.word.specs.Code.{Held}
 use Rattle.word.specs.declared.Found.the-variants as Found
 use Rattle.word.specs.declared.Found.{Found}
 use Rattle.word.specs.Word.{padded, sameBytes, place}
-
--- ---- comparing two rows of 16 bytes
-
--- what was compared and what is left are alike where the rows are
-pub record Comparing (a b : List ℕ) (all : Bool) (i : ℕ) : Type 0 where
-  pub within : i ≤ 16
-  pub left : length a ≡ 16
-  pub right : length b ≡ 16
-  pub rest : (all && sameBytes (drop i a) (drop i b)) ≡ sameBytes a b
-
--- one byte of two rows, behind what is known of the bytes before it
-next : (all : Bool) (a b : List ℕ) (i : ℕ) → i < length a → i < length b
-    → (all && sameBytes (drop i a) (drop i b))
-    ≡ ((all && eqb (getD a i 0) (getD b i 0)) && sameBytes (drop (i + 1) a) (drop (i + 1) b))
-unfolding sameBytes
-next true a b i h g = rw (add-one i, drop-cons a i 0 h, drop-cons b i 0 g) refl
-next false a b i h g = refl
-
-end : (all : Bool) (a b : List ℕ) (i : ℕ) → length a ≤ i → length b ≤ i
-    → (all && sameBytes (drop i a) (drop i b)) ≡ all
-unfolding sameBytes
-end true a b i h g = rw (drop-of-length-le a h, drop-of-length-le b g) refl
-end false a b i h g = refl
-
-pub one-more : {a b : List ℕ} {all : Bool} {i : ℕ} → Comparing a b all i → i < 16
-    → Comparing a b (all && eqb (getD a i 0) (getD b i 0)) (i + 1)
-one-more {a} {b} {all} {i} c h =
-    record {
-      within = omega arith;
-      left = c .left;
-      right = c .right;
-      rest = sym (next all a b i (omega (arith, c)) (omega (arith, c))) ∙ c .rest;
-    }
-
-pub compared : {a b : List ℕ} {all : Bool} {i : ℕ} → Comparing a b all i → 16 ≤ i → all ≡ sameBytes a b
-compared {a} {b} {all} {i} c h = sym (end all a b i (omega (arith, c)) (omega (arith, c))) ∙ c .rest
 
 -- ---- filling up with spaces
 
@@ -95,14 +58,12 @@ whole {w} {b} {i} p h =
     let e : i ≡ length w = omega (arith, p) in
     p .so-far ∙ rw (e, take-length w, take-all 16 w (omega (arith, p))) refl
 
-pub filled-up : {w b : List ℕ} {i n : ℕ} → Padding w b i → Held (length w) n → n ≤ i → b ≡ padded w
-filled-up {w} {b} {i} {n} p h l = go (ltb i 16) refl
+pub filled-up : {w b : List ℕ} {i n : ℕ} → Padding w b i → n ≡ min (length w) 16 → n ≤ i → b ≡ padded w
+filled-up {w} {b} {i} {n} p least l = go (ltb i 16) refl
   where
     go : (t : Bool) → ltb i 16 ≡ t → b ≡ padded w
-    go true e =
-        let short : i < 16 = ltb-true _ _ e in
-        whole p (omega (arith, h .all (omega arith)))
-    go false e = full p (ltb-false _ _ e)
+    go true e = whole p (omega (arith, ltb-true i 16 e))
+    go false e = full p (ltb-false i 16 e)
 
 -- ---- looking a row up
 

@@ -1,14 +1,14 @@
 -- Laws of runs of bytes and of words. Assumes nothing.
-use mathlib.Core.Path.{_≡_, refl, ap}
+use mathlib.Core.Path.{_≡_, refl, sym, _∙_, ap}
 use mathlib.Core.Bool.{Bool, true, false, cond}
 use mathlib.Core.List.{List, [], _∷_}
-use Prim.Native.Nat.{ℕ, suc, _+_, _-_, _≤_, _<_}
+use Prim.Native.Nat.{ℕ, suc, min, _+_, _-_, _≤_, _<_}
 use native.Mathlib.Numerals.{add-one}
 use native.Mathlib.Omega.{arith}
-use lib.Dec.{eqb}
-use lib.ListN.{length, drop, getD, drop-of-length-le, length-drop}
-use lib.Seq.{drop-cons}
-use borrow.Author.Tests.{eq-eqb, ne-eqb}
+use lib.Dec.{eqb, leb}
+use lib.ListN.{length, take, drop, getD, drop-of-length-le, length-drop}
+use lib.Seq.{drop-cons, take-all, take-nil}
+use borrow.Author.Tests.{eq-eqb, ne-eqb, leb-true, leb-false}
 use Rattle.word.specs.declared.Class.the-variants as Class
 use Rattle.word.specs.declared.Class.{Class}
 use Rattle.word.specs.declared.Span.{Span}
@@ -66,6 +66,44 @@ inside w s i e h =
     let a : run Class.Blank (drop i s) ≤ length s - i = rw (← length-drop i s) (run-le Class.Blank (drop i s)) in
     let b : run Class.Solid (drop f s) ≤ length s - f = rw (← length-drop f s) (run-le Class.Solid (drop f s)) in
     (omega arith, omega arith)
+
+-- a part is what there is of it between its ends
+module _ (s : List ℕ) (a b : ℕ) where
+  ends-within : a ≤ min b (length s) → take (min b (length s) - a) (drop a s) ≡ take (b - a) (drop a s)
+  ends-within h = go (leb b (length s)) refl
+    where
+      go : (t : Bool) → leb b (length s) ≡ t → take (min b (length s) - a) (drop a s) ≡ take (b - a) (drop a s)
+      go true l =
+          let same : min b (length s) ≡ b = omega (arith, leb-true b (length s) l) in
+          rw same refl
+      go false l =
+          let size = length-drop a s in
+          let past : length s < b = leb-false b (length s) l in
+          take-all (min b (length s) - a) (drop a s) (omega (arith, size, past))
+          ∙ sym (take-all (b - a) (drop a s) (omega (arith, size, past)))
+
+  nothing-between : min b (length s) < a → take (b - a) (drop a s) ≡ []
+  nothing-between h = go (leb b a) refl
+    where
+      go : (t : Bool) → leb b a ≡ t → take (b - a) (drop a s) ≡ []
+      go true l =
+          let none : b - a ≡ 0 = omega (arith, leb-true b a l) in
+          rw none refl
+      go false l =
+          let past : length s ≤ a = omega (arith, leb-false b a l) in
+          rw (drop-of-length-le s past) (take-nil (b - a))
+
+  pub clipped : (start end : ℕ) → end ≡ min b (length s) → start ≡ min a end
+      → take (end - start) (drop start s) ≡ take (b - a) (drop a s)
+  clipped start end e f = go (leb a end) refl
+    where
+      go : (t : Bool) → leb a end ≡ t → take (end - start) (drop start s) ≡ take (b - a) (drop a s)
+      go true l =
+          let same : start ≡ a = omega (arith, leb-true a end l) in
+          rw (same, e) (ends-within (omega (arith, leb-true a end l)))
+      go false l =
+          let none : end - start ≡ 0 = omega (arith, leb-false a end l) in
+          rw none (sym (nothing-between (omega (arith, leb-false a end l))))
 
 -- ---- lines that are skipped
 

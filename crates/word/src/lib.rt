@@ -1,10 +1,10 @@
 // Words of a line: where the next one stands, names, types, small numbers, and words found in a table.
 ghost use mathlib.Core.Path.{_≡_};
-ghost use Prim.Native.Nat.{_+_, _<_};
-ghost use lib.ListN.{drop};
-ghost use Rattle.word.specs.Code.{Held};
+ghost use Prim.Native.Nat.{min, _+_, _≤_};
+ghost use lib.ListN.{length, drop};
+ghost use Rattle.word.specs.Code.{Pushed, Eight, filledFrom, KeyOf, sameKey, FoundBy};
 ghost use Rattle.word.specs.Word.{inClass, run, wordAt, skipped, nameForm, readType, smallOf};
-ghost use Rattle.word.specs.Word.{padded, sameBytes, place, seek};
+ghost use Rattle.word.specs.Word.{part, padded, seek};
 
 pub enum Class {
     Blank,
@@ -64,6 +64,12 @@ pub fn run_from(s: &[u8], at: usize, class: Class) -> usize
     i
 }
 
+fn least(n: usize, m: usize) -> usize
+    ensures { λ r. ⌜ r ≡ min n m ⌝ }
+{
+    if n < m { n } else { m }
+}
+
 // The next word from `at` on; where there is none, an empty one at the end.
 pub fn word_at(s: &[u8], at: usize) -> Span
     ensures { λ r. ⌜ r ≡ wordAt (now (s .entry)) at ⌝ }
@@ -71,6 +77,15 @@ pub fn word_at(s: &[u8], at: usize) -> Span
     let start = run_from(s, at, Class::Blank);
     let end = run_from(s, start, Class::Solid);
     Span { start, end }
+}
+
+// The bytes of a part of a line, as far as they are there.
+pub fn part_of(line: &[u8], w: Span) -> &[u8]
+    ensures { λ r. ⌜ now r ≡ part (now (line .entry)) w ⌝ }
+{
+    let end = least(w.end, line.len());
+    let start = least(w.start, end);
+    &line[start..end]
 }
 
 // A line of blanks, or one whose first other byte is `#`.
@@ -138,22 +153,12 @@ pub fn read_small(word: &[u8]) -> Small
     Small::Number(n as u8)
 }
 
-// How many of n bytes a row holds.
-fn held(n: usize) -> usize
-    ensures { λ r. ⌜ Held n r ⌝ }
-{
-    if n < WIDTH {
-        return n;
-    }
-    WIDTH
-}
-
 // A word as a row of a table: filled up with spaces, and cut where it is too long.
 pub fn pad(word: &[u8]) -> [u8; 16]
     ensures { λ r. ⌜ r ≡ padded (now (word .entry)) ⌝ }
 {
     let mut b = [b' '; 16];
-    let n = held(word.len());
+    let n = least(word.len(), WIDTH);
     let mut i: usize = 0;
     while i < n {
         b[i] = word[i];
@@ -162,26 +167,89 @@ pub fn pad(word: &[u8]) -> [u8; 16]
     b
 }
 
-// Without a way out before the end, so that the sixteen bytes are compared at once.
-fn same(a: [u8; 16], b: [u8; 16]) -> bool
-    ensures { λ r. ⌜ r ≡ sameBytes a b ⌝ }
-{
-    let mut all = true;
-    let mut i: usize = 0;
-    while i < WIDTH {
-        all = all & (a[i] == b[i]);
-        i += 1;
-    }
-    all
+// ---- words looked up: a row is compared as two numbers, which need not be laid down in memory
+
+// Sixteen bytes, eight to a number, the first the lowest.
+struct Key {
+    low: u64,
+    high: u64,
 }
 
-fn find(rows: &[[u8; 16]], key: [u8; 16]) -> Found
-    ensures { λ r. ⌜ r ≡ place 0 (now (rows .entry)) key ⌝ }
+const EIGHT: usize = 8;
+
+// Eight spaces as one number.
+const SPACES: u64 = 2314885530818453536;
+
+const BYTE: u64 = 256;
+
+const SEVEN_BYTES: u64 = 72057594037927936;
+
+// A byte, and behind it the first seven of eight.
+fn push(c: u8, eight: u64) -> u64
+    ensures { λ r. ⌜ Pushed c eight r ⌝ }
+{
+    c as u64 + BYTE * (eight % SEVEN_BYTES)
+}
+
+// Eight bytes of a row.
+fn eight_at(row: [u8; 16], at: usize) -> u64
+    requires { ⌜ at ≤ 8 ⌝ }
+    ensures { λ r. ⌜ Eight (drop at row) r ⌝ }
+{
+    let mut eight: u64 = 0;
+    let mut i = at + EIGHT;
+    while at < i {
+        i -= 1;
+        eight = push(row[i], eight);
+    }
+    eight
+}
+
+// Eight bytes of a word, spaces for those that are not there.
+fn eight_from(word: &[u8], from: usize) -> u64
+    ensures { λ r. ⌜ Eight (filledFrom (now (word .entry)) from) r ⌝ }
+{
+    let mut eight = SPACES;
+    let mut i = word.len();
+    while from < i {
+        i -= 1;
+        eight = push(word[i], eight);
+    }
+    eight
+}
+
+fn row_key(row: [u8; 16]) -> Key
+    ensures { λ r. ⌜ KeyOf row r ⌝ }
+{
+    Key {
+        low: eight_at(row, 0),
+        high: eight_at(row, EIGHT),
+    }
+}
+
+fn word_key(word: &[u8]) -> Key
+    requires { ⌜ length (now word) ≤ 16 ⌝ }
+    ensures { λ r. ⌜ KeyOf (padded (now (word .entry))) r ⌝ }
+{
+    Key {
+        low: eight_from(word, 0),
+        high: eight_from(word, EIGHT),
+    }
+}
+
+fn same(a: Key, b: Key) -> bool
+    ensures { λ r. ⌜ r ≡ sameKey a b ⌝ }
+{
+    (a.low == b.low) & (a.high == b.high)
+}
+
+fn find(rows: &[[u8; 16]], key: Key) -> Found
+    ensures { λ r. ⌜ FoundBy key (now (rows .entry)) r ⌝ }
 {
     let mut i: usize = 0;
     while i < rows.len() {
         let row = rows[i];
-        if same(row, key) {
+        if same(row_key(row), key) {
             return Found::At(i);
         }
         i += 1;
@@ -194,7 +262,7 @@ pub fn seek_word(rows: &[[u8; 16]], word: &[u8]) -> Found
     ensures { λ r. ⌜ r ≡ seek (now (rows .entry)) (now (word .entry)) ⌝ }
 {
     if word.len() <= WIDTH {
-        let key = pad(word);
+        let key = word_key(word);
         return find(rows, key);
     }
     Found::Nothing

@@ -17,13 +17,13 @@ abbrev μ-loop : tie.MeasureT-loop
 -- with a byte that the row holds
 module _ (c : tie.In-loop Inv-loop μ-loop) where
   inside : c .before .loop .i < length (c .before .before .before .before .args .word .now)
-  inside = omega (arith, c .before .before .held .ensures .within)
+  inside = omega (arith, c .before .before .least .ensures)
 
   room : c .before .loop .i < 16
-  room = omega (arith, c .before .before .held .ensures .most)
+  room = omega (arith, c .before .before .least .ensures)
 
-held-requires : tie.Need-held-requires Inv-loop μ-loop
-held-requires c κs = search needs
+least-requires : tie.Need-least-requires Inv-loop μ-loop
+least-requires c κs = search needs
 
 loop-holds : tie.Need-loop-holds Inv-loop μ-loop
 loop-holds c = record { within = omega arith; short = omega arith; size = refl; so-far = refl }
@@ -44,11 +44,11 @@ loop-again : tie.Need-loop-again Inv-loop μ-loop
 loop-again c = put (c .before .before .loop .inv) (inside (c .before)) (room (c .before))
 
 returns : tie.Need-returns Inv-loop μ-loop
-returns c = filled-up (c .before .loop .inv) (c .before .before .held .ensures) (c .loop-test .left)
+returns c = filled-up (c .before .loop .inv) (c .before .before .least .ensures) (c .loop-test .left)
 
 pub pad-spec : {M : Type 1} → statement M
 pad-spec =
     tie.close
     (tie.spec
-    Inv-loop μ-loop held-requires loop-holds shared-slice-read-b array-write-b add-i loop-less
+    Inv-loop μ-loop least-requires loop-holds shared-slice-read-b array-write-b add-i loop-less
     loop-again returns)
