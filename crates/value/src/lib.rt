@@ -1,6 +1,8 @@
 // Values: whole numbers and floats, literals, arithmetic and comparison.
+ghost use mathlib.Core.Bool.{cond};
 ghost use mathlib.Core.Path.{_≡_};
 ghost use Prim.Native.Nat.{_+_, _≤_, _<_, _%_, _^_};
+ghost use lib.Dec.{ltb};
 ghost use lib.Ieee.{binary64, toBits};
 ghost use lib.IntN.{natAbs, pos, negℤ, _+ℤ_, _-ℤ_, _*ℤ_};
 ghost use lib.ListN.{length, drop};
@@ -9,7 +11,7 @@ ghost use Rattle.value.specs.Arithmetic.{rest, signedWord, wrap, wholes,
 ghost use Rattle.value.specs.Arithmetic.{finite, calculated, compareWholes, compareReals, compares};
 ghost use Rattle.value.specs.Code.{folded};
 ghost use Rattle.prefix.specs.Prefix.{prefixOf};
-ghost use Rattle.value.specs.Literal.{lettered, suffixed, finish, readDigits, literal};
+ghost use Rattle.value.specs.Literal.{lettered, suffixed, signed, finish, readDigits, literal};
 
 // Inside the machine a value is either a whole number or a float.
 pub enum Value {
@@ -116,6 +118,21 @@ fn negated(v: u64) -> i32
     -1 - w
 }
 
+// Whether the number with its sign has 32 bits.
+fn in_range(v: u64, neg: bool) -> bool
+    ensures { λ r. ⌜ r ≡ ltb (mag (signed neg v)) (2 ^ 31) ⌝ }
+{
+    if neg { v <= HALF } else { v < HALF }
+}
+
+// The number with its sign.
+fn with_sign(v: u64, neg: bool) -> i32
+    requires { ⌜ mag (signed neg v) < 2 ^ 31 ⌝ }
+    ensures { λ r. ⌜ r ≡ signed neg v ⌝ }
+{
+    if neg { negated(v) } else { v as i32 }
+}
+
 // After k digits that make v.
 fn finished(s: &[u8], i: usize, k: usize, v: u64, neg: bool) -> Literal
     requires { ⌜ i ≤ length (now s) ⌝ }
@@ -124,17 +141,11 @@ fn finished(s: &[u8], i: usize, k: usize, v: u64, neg: bool) -> Literal
     if k == 0 {
         return Literal::Bad(i);
     }
-    if neg {
-        if v <= HALF {
-            let z = negated(v);
-            return with_suffix(s, i, z);
-        }
+    if !in_range(v, neg) {
         return Literal::Bad(i);
     }
-    if v < HALF {
-        return with_suffix(s, i, v as i32);
-    }
-    Literal::Bad(i)
+    let z = with_sign(v, neg);
+    with_suffix(s, i, z)
 }
 
 // The digits from `at` on, and what follows them.
@@ -151,6 +162,13 @@ fn digits(s: &[u8], at: usize, neg: bool) -> Literal
     finished(s, next, k, read.number, neg)
 }
 
+// Where the digits begin.
+fn past_sign(neg: bool) -> usize
+    ensures { λ r. ⌜ r ≡ cond neg 1 0 ⌝ }
+{
+    if neg { 1 } else { 0 }
+}
+
 // The whole word as a literal.
 pub fn read_literal(word: &[u8]) -> Literal
     ensures { λ r. ⌜ r ≡ literal (now (word .entry)) ⌝ }
@@ -158,11 +176,8 @@ pub fn read_literal(word: &[u8]) -> Literal
     if word.len() == 0 {
         return Literal::Bad(0);
     }
-    if word[0] == b'-' {
-        digits(word, 1, true)
-    } else {
-        digits(word, 0, false)
-    }
+    let neg = word[0] == b'-';
+    digits(word, past_sign(neg), neg)
 }
 
 // ---- whole numbers
