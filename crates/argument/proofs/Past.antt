@@ -15,7 +15,7 @@ empty-take : (n : ℕ) (s : List ℕ) → length s ≡ 0 → take n s ≡ []
 empty-take n [] h = take-nil n
 empty-take n (c ∷ s) h = absurd (omega arith)
 
-pub word-past : (s : List ℕ) (i : ℕ) → length s ≤ i → (part s (wordAt s i) ≡ []) × (wordAt s i .end ≡ i)
+word-past : (s : List ℕ) (i : ℕ) → length s ≤ i → (part s (wordAt s i) ≡ []) × (wordAt s i .end ≡ i)
 unfolding wordAt
 word-past s i h =
     let f : ℕ = i + run Class.Blank (drop i s) in

@@ -352,16 +352,10 @@ pub fn say_at(form: Form, line: &[u8], at: usize, names: &[[u8; 16]]) -> Said
     if is_text(form) {
         return text_at(line, at);
     }
-    if line.len() < at {
-        let argument = say(form, &line[0..0], names);
-        return Said { argument, stop: at };
-    }
     let w = word::word_at(line, at);
-    let start = w.start;
-    let end = w.end;
-    let argument = say(form, &line[start..end], names);
+    let argument = say(form, word::part_of(line, w), names);
     Said {
         argument,
-        stop: end,
+        stop: w.end,
     }
 }

@@ -18,10 +18,7 @@ use Rattle.argument.specs.declared.Argument.{Argument}
 use Rattle.argument.specs.declared.Argument.the-variants as Argument
 use Rattle.argument.specs.Holds.{wrongOf}
 use Rattle.argument.specs.Code.{numbered}
-use lib.ListN.{length}
-use Rattle.argument.proofs.Past.{word-past}
 use Rattle.argument.proofs.Argument.{the-type}
-use Rattle.line.proofs.Letters.{no-bytes}
 use Rattle.line.specs.Command.{Arguments, itemOf, commandWords, commandAt}
 use Rattle.line.specs.Line.{item, refused, argumentsAt, lower, lowest, verdict, judged}
 
@@ -84,11 +81,6 @@ pub unknown : (names : List (List ℕ)) (line : List ℕ) (i : ℕ) (w : Span)
     → w ≡ wordAt line i → seek commandWords (part line w) ≡ Found.Nothing → refused 14 ≡ judged names line i
 unfolding judged
 unknown names line i w e f = rw (← e, f) refl
-
-pub past : (names : List (List ℕ)) (line : List ℕ) (i : ℕ) → length line < i → refused 14 ≡ judged names line i
-past names line i h =
-    let none = word-past line i (omega arith) in
-    unknown names line i (wordAt line i) refl (sym (no-bytes _ (rw (none .0) refl)))
 
 -- a line whose word w is the command of row k, with what its arguments say
 pub record Asked (names : List (List ℕ)) (line : List ℕ) (i : ℕ) (w : Span) (k : ℕ) (x : Arguments) : Type 0 where

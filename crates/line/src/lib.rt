@@ -487,18 +487,13 @@ fn worst_of(x: Arguments) -> Argument
 pub fn judge_line(script: &[u8], at: usize, names: &[[u8; 16]]) -> Judged
     ensures { λ r. ⌜ meaning r ≡ judged (now (names .entry)) (now (script .entry)) at ⌝ }
 {
-    if script.len() < at {
-        return Judged::Refused(Refusal::UnknownCommand);
-    }
     let w = word::word_at(script, at);
-    let start = w.start;
-    let end = w.end;
-    match find_command(&script[start..end]) {
+    match find_command(word::part_of(script, w)) {
         Found::Nothing => Judged::Refused(Refusal::UnknownCommand),
         Found::At(k) => {
             let shape = shape_at(k);
             let make = make_at(k);
-            let x = say_all(shape, script, end, names);
+            let x = say_all(shape, script, w.end, names);
             match worst_of(x) {
                 Argument::Wrong(refusal) => Judged::Refused(refusal),
                 _ => Judged::Item(item_of(make, x)),

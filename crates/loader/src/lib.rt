@@ -116,9 +116,7 @@ fn name_row(line: &[u8]) -> [u8; 16]
     let c = word::word_at(line, 0);
     let past = c.end;
     let w = word::word_at(line, past);
-    let start = w.start;
-    let end = w.end;
-    word::pad(&line[start..end])
+    word::pad(word::part_of(line, w))
 }
 
 // A script in, its table out; or the number and line of the first refusal, within a line the lowest.

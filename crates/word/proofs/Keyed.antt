@@ -128,7 +128,8 @@ filled j zero a b w h g = enough j a b w (omega arith) (omega arith)
 filled j (suc i) a b [] h g = past-spaces j (suc i) a b h (omega arith)
 filled j (suc i) a b (c ∷ w) h g = filled j i a b w h (omega arith)
 
-pub eight-padded : (w : List ℕ) (i n : ℕ) → length w ≤ 16 → i ≤ 8 → Eight (filledFrom w i) n → Eight (drop i (padded w)) n
+pub eight-padded : (w : List ℕ) (i n : ℕ) → length w ≤ 16 → i ≤ 8 → Eight (filledFrom w i) n
+    → Eight (drop i (padded w)) n
 unfolding padded
 eight-padded w i n h g e =
     let same : take 8 (filledFrom w i) ≡ take 8 (drop i (take 16 w ++ spaces (16 - length w))) =

@@ -9,7 +9,7 @@ use Rattle.word.specs.declared.Found.{Found}
 use Rattle.word.specs.declared.Small.{Small}
 use Rattle.word.specs.declared.Span.{Span}
 use Rattle.word.specs.declared.TypeName.{TypeName}
-use Rattle.word.specs.Word.{run, wordAt, skipped, nameForm, readType, smallOf, padded, seek}
+use Rattle.word.specs.Word.{run, wordAt, part, skipped, nameForm, readType, smallOf, padded, seek}
 
 pub only-run-from : (s : List ℕ) (i : ℕ) (k : Class) (r r' : ℕ) → r ≡ i + run k (drop i s) → r' ≡ i + run k (drop i s)
     → r ≡ r'
@@ -17,6 +17,9 @@ only-run-from s i k r r' e e' = e ∙ sym e'
 
 pub only-word-at : (s : List ℕ) (i : ℕ) (r r' : Span) → r ≡ wordAt s i → r' ≡ wordAt s i → r ≡ r'
 only-word-at s i r r' e e' = e ∙ sym e'
+
+pub only-part-of : (line : List ℕ) (w : Span) (r r' : List ℕ) → r ≡ part line w → r' ≡ part line w → r ≡ r'
+only-part-of line w r r' e e' = e ∙ sym e'
 
 pub only-is-skipped : (line : List ℕ) (r r' : Bool) → r ≡ skipped line → r' ≡ skipped line → r ≡ r'
 only-is-skipped line r r' e e' = e ∙ sym e'

@@ -1,32 +1,36 @@
 -- `line::judge_line` finds the command, then what its arguments say. Assumes nothing.
 use borrow.Author.Needs.{needs}
-use lib.ListN.{length}
 use mathlib.Core.List.{List}
-use mathlib.Core.Path.{sym, _∙_}
-use native.Mathlib.Omega.{arith}
-use Prim.Native.Nat.{ℕ, _≤_}
+use mathlib.Core.Path.{_≡_, sym, _∙_, ap}
+use Prim.Native.Nat.{ℕ}
 use Rattle.argument.specs.Refusal.{numberOf}
-use Rattle.line.proofs.Judge.{Asked, past, unknown, faulty, good}
+use Rattle.line.proofs.Judge.{Asked, unknown, faulty, good}
 use Rattle.line.proofs.judge_line.Statement.{statement}
 use Rattle.line.proofs.judge_line.Tie as tie
+use Rattle.line.specs.Command.{commandWords}
 use Rattle.line.specs.Line.{meaning}
-use Rattle.word.proofs.Runs.{inside}
+use Rattle.word.specs.Word.{part, seek}
 
 -- ---- the places
 
 -- with the line's first word
 module _ (c : tie.After-word-at) where
   abbrev names : List (List ℕ)
-  names = c .before .before .before .args .names .now
+  names = c .before .before .args .names .now
 
   abbrev script : List ℕ
-  script = c .before .before .before .args .script .now
+  script = c .before .before .args .script .now
 
   abbrev from : ℕ
-  from = c .before .before .before .args .at
+  from = c .before .before .args .at
 
-  stands : (c .word-at .result .start ≤ c .word-at .result .end) × (c .word-at .result .end ≤ length script)
-  stands = inside (c .word-at .result) script from (c .word-at .ensures) (c .before .if1 .left)
+-- with what was found of the command
+module _ (c : tie.After-find-command) where
+  abbrev begun : tie.After-word-at
+  begun = c .before .before
+
+  sought : seek commandWords (part (script begun) (begun .word-at .result)) ≡ c .find-command .result
+  sought = sym (c .find-command .ensures ∙ ap (seek commandWords) (c .before .part-of .ensures))
 
 -- with what the arguments of a command say
 module _ (c : tie.After-say-all) where
@@ -39,34 +43,24 @@ module _ (c : tie.After-say-all) where
   abbrev looked : tie.After-find-command
   looked = found .before .before .before
 
-  abbrev begun : tie.After-word-at
-  begun = looked .before .before
+  abbrev first : tie.After-word-at
+  first = begun looked
 
-  asked : Asked (names begun) (script begun) (from begun) (begun .word-at .result) row (c .say-all .result)
+  asked : Asked (names first) (script first) (from first) (first .word-at .result) row (c .say-all .result)
   asked =
       record {
-        word = begun .word-at .ensures;
-        row = sym (looked .find-command .ensures) ∙ found .before .k .given .1;
+        word = first .word-at .ensures;
+        row = sought looked ∙ found .before .k .given .1;
         says = rw (c .before .before .shape-at .ensures) at (c .say-all .ensures);
       }
 
 -- ---- the needs
 
-returns : tie.Need-returns
-unfolding meaning numberOf
-returns c = past _ _ _ (c .if1 .taken)
-
 word-at-requires : tie.Need-word-at-requires
 word-at-requires c κs = search needs
 
-sub-find-command : tie.Need-sub-find-command
-sub-find-command c = stands c .0
-
-part-find-command-start : tie.Need-part-find-command-start
-part-find-command-start c = omega (arith, stands c)
-
-part-find-command-end : tie.Need-part-find-command-end
-part-find-command-end c = omega (arith, stands c)
+part-of-requires : tie.Need-part-of-requires
+part-of-requires c κs = search needs
 
 find-command-requires : tie.Need-find-command-requires
 find-command-requires c κs = search needs
@@ -95,23 +89,22 @@ enum-known-refusal c = search needs
 item-of-requires : tie.Need-item-of-requires
 item-of-requires c κs = search needs
 
-returns-2 : tie.Need-returns-2
+returns : tie.Need-returns
 unfolding meaning numberOf
-returns-2 c =
+returns c =
     let looked = c .before .before in
-    unknown _ _ _ _ (looked .before .before .word-at .ensures)
-    (sym (looked .find-command .ensures) ∙ c .enum-told .given .1)
+    unknown _ _ _ _ (begun looked .word-at .ensures) (sought looked ∙ c .enum-told .given .1)
 
-returns-3 : tie.Need-returns-3
+returns-2 : tie.Need-returns-2
 unfolding meaning
-returns-3 c =
+returns-2 c =
     let worst = c .before .before .before in
     faulty (asked (worst .before)) (worst .worst-of .result) _ (worst .worst-of .ensures)
     (c .before .refusal .given .1)
 
-returns-4 : tie.Need-returns-4
+returns-3 : tie.Need-returns-3
 unfolding meaning
-returns-4 c =
+returns-3 c =
     let worst = c .before .before in
     let makes = worst .before .before .make-at .ensures in
     good (asked (worst .before)) (worst .worst-of .result) _ (worst .worst-of .ensures) (c .before .match2 .keys2)
@@ -121,6 +114,6 @@ pub judge-line-spec : {M : Type 1} → statement M
 judge-line-spec =
     tie.close
     (tie.spec
-    returns word-at-requires sub-find-command part-find-command-start part-find-command-end
-    find-command-requires enum-told enum-known-k shape-at-requires make-at-requires say-all-requires
-    worst-of-requires enum-known-refusal item-of-requires returns-2 returns-3 returns-4)
+    word-at-requires part-of-requires find-command-requires enum-told enum-known-k shape-at-requires
+    make-at-requires say-all-requires worst-of-requires enum-known-refusal item-of-requires returns
+    returns-2 returns-3)

@@ -1,6 +1,7 @@
 -- `word::find` goes row by row, with whatever row the key is of. Assumes nothing.
 use borrow.Author.Needs.{needs}
 use lib.ListN.{getD, length}
+use mathlib.Core.Bool.{Bool}
 use mathlib.Core.List.{List, []}
 use mathlib.Core.Path.{_≡_, refl, sym, _∙_}
 use Prim.Native.Nat.{ℕ, _-_, _<_}
@@ -40,8 +41,8 @@ module _ (c : tie.After-same Inv-loop μ-loop) where
   inside : i < length rows
   inside = turn .loop-test .taken
 
-  compared : (row : List ℕ) → KeyOf row key → sameBytes (getD rows i []) row ≡ c .same .result
-  compared row k = sym (c .same .ensures ∙ same-rows (c .before .row-key .ensures) k)
+  compared : {b : Bool} → c .same .result ≡ b → (row : List ℕ) → KeyOf row key → sameBytes (getD rows i []) row ≡ b
+  compared e row k = sym (c .same .ensures ∙ same-rows (c .before .row-key .ensures) k) ∙ e
 
 -- ---- the needs
 
@@ -62,7 +63,8 @@ same-requires c κs = search needs
 
 returns : tie.Need-returns Inv-loop μ-loop
 returns c =
-    record { first = λ row k. found (sought (c .before) row k) (inside (c .before)) (compared (c .before) row k ∙ c .if1 .taken) }
+    let d = c .before in
+    record { first = λ row k. found (sought d row k) (inside d) (compared d (c .if1 .taken) row k) }
 
 add-i : tie.Need-add-i Inv-loop μ-loop
 add-i c = search needs
@@ -72,7 +74,8 @@ loop-less c = search needs
 
 loop-again : tie.Need-loop-again Inv-loop μ-loop
 loop-again c row k =
-    passed (sought (c .before) row k) (inside (c .before)) (compared (c .before) row k ∙ c .if1 .left)
+    let d = c .before in
+    passed (sought d row k) (inside d) (compared d (c .if1 .left) row k)
 
 returns-2 : tie.Need-returns-2 Inv-loop μ-loop
 returns-2 c = record { first = λ row k. not-found (c .before .loop .inv row k) (c .loop-test .left) }
