@@ -7,7 +7,7 @@ use lib.ListN.{drop-of-length-le}
 use lib.Seq.{drop-cons, drop-drop, drop-length, take-all, take-take}
 use mathlib.Core.Bool.{Bool, true, false, _&&_, and-assoc, and-true}
 use mathlib.Core.List.{List, [], _∷_, _++_}
-use mathlib.Core.Path.{_≡_, refl, sym, subst, _∙_, ap, ap₂}
+use mathlib.Core.Path.{_≡_, refl, sym, subst, _∙_, ap}
 use native.Mathlib.Nat.{pow-suc, one-le-pow, mul-assoc, mul-comm, sub-self}
 use native.Mathlib.Omega.{arith}
 use Prim.Native.Nat.{ℕ, zero, suc, min, _+_, _-_, _*_, _%_, _^_, _≤_, _<_}

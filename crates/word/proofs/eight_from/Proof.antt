@@ -1,7 +1,6 @@
 -- `word::eight_from` puts the bytes of a word in front of spaces, the last one first. Assumes nothing.
 use borrow.Author.Needs.{needs}
 use native.Mathlib.Omega.{arith}
-use Prim.Native.Nat.{_-_}
 use Rattle.word.proofs.eight_from.Statement.{statement}
 use Rattle.word.proofs.eight_from.Tie as tie
 use Rattle.word.proofs.Keyed.{Filling, no-more, filled-one, filled-all}
