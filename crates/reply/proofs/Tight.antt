@@ -28,8 +28,8 @@ named n =
     (cond (eqb n 41) Refusal.TooManyParts
     (cond (eqb n 50) Refusal.NoEnding
     (cond (eqb n 51) Refusal.UnknownLine
-    (cond (eqb n 52) Refusal.NoMate
-    (cond (eqb n 53) Refusal.NinthLoop
+    (cond (eqb n 52) Refusal.OutOfPlace
+    (cond (eqb n 53) Refusal.NinthOpen
     (cond (eqb n 54) Refusal.ShortTable Refusal.TooLong))))))
 
 named-back : (w : Refusal) → named (numberOf w) ≡ w
@@ -38,8 +38,8 @@ named-back Refusal.BadPart = refl
 named-back Refusal.TooManyParts = refl
 named-back Refusal.NoEnding = refl
 named-back Refusal.UnknownLine = refl
-named-back Refusal.NoMate = refl
-named-back Refusal.NinthLoop = refl
+named-back Refusal.OutOfPlace = refl
+named-back Refusal.NinthOpen = refl
 named-back Refusal.ShortTable = refl
 named-back Refusal.TooLong = refl
 

@@ -23,8 +23,8 @@ numberOf Refusal.BadPart = 40
 numberOf Refusal.TooManyParts = 41
 numberOf Refusal.NoEnding = 50
 numberOf Refusal.UnknownLine = 51
-numberOf Refusal.NoMate = 52
-numberOf Refusal.NinthLoop = 53
+numberOf Refusal.OutOfPlace = 52
+numberOf Refusal.NinthOpen = 53
 numberOf Refusal.ShortTable = 54
 numberOf Refusal.TooLong = 55
 

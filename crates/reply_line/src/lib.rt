@@ -19,8 +19,8 @@ pub enum Refusal {
     TooManyParts,
     NoEnding,
     UnknownLine,
-    NoMate,
-    NinthLoop,
+    OutOfPlace,
+    NinthOpen,
     ShortTable,
     TooLong,
 }
@@ -45,8 +45,8 @@ pub fn number(refusal: Refusal) -> u8
         Refusal::TooManyParts => 41,
         Refusal::NoEnding => 50,
         Refusal::UnknownLine => 51,
-        Refusal::NoMate => 52,
-        Refusal::NinthLoop => 53,
+        Refusal::OutOfPlace => 52,
+        Refusal::NinthOpen => 53,
         Refusal::ShortTable => 54,
         Refusal::TooLong => 55,
     }

@@ -50,25 +50,25 @@ pub record Onward (n : ℕ) (o : Open) (l : Line) : Type 0 where
 pub onward : (n : ℕ) (o : Open) (l : Line) → step n l o .to ≡ Move.On → Onward n o l
 unfolding step
 onward n o Line.Quiet e = record { may = tt; state = refl }
-onward n o Line.Empty e = absurd (by-test (leb 1 (length (o .loops))) e)
+onward n o Line.Empty e = absurd (by-test (leb 1 (length (o .around))) e)
   where
-    by-test : (b : Bool) → cond b (refused Refusal.NoMate o) (goes (Move.Ends 0) o) .to ≡ Move.On → ⊥
+    by-test : (b : Bool) → cond b (refused Refusal.OutOfPlace o) (goes (Move.Ends 0) o) .to ≡ Move.On → ⊥
     by-test true x = refused-not-on x
     by-test false x = ends-not-on x
 onward n o Line.Package e = record { may = tt; state = refl }
-onward n o (Line.Opens k v) e = by-test (ltb (length (o .loops)) 8) refl (ltb (o .rows) n) refl e
+onward n o (Line.Opens k v) e = by-test (ltb (length (o .around)) 8) refl (ltb (o .rows) n) refl e
   where
-    by-test : (b : Bool) → ltb (length (o .loops)) 8 ≡ b → (b′ : Bool) → ltb (o .rows) n ≡ b′
+    by-test : (b : Bool) → ltb (length (o .around)) 8 ≡ b → (b′ : Bool) → ltb (o .rows) n ≡ b′
         → cond b (cond b′ (goes Move.On (opened k o)) (refused Refusal.ShortTable o))
-        (refused Refusal.NinthLoop o) .to ≡ Move.On
+        (refused Refusal.NinthOpen o) .to ≡ Move.On
         → Onward n o (Line.Opens k v)
     by-test true p true q x = record { may = ltb-true (o .rows) n q; state = rw (p, q) refl }
     by-test true p false q x = absurd (refused-not-on x)
     by-test false p b′ q x = absurd (refused-not-on x)
-onward n o (Line.Closes k) e = by-test (closes k (o .loops)) refl e
+onward n o (Line.Closes k) e = by-test (closes k (o .around)) refl e
   where
-    by-test : (b : Bool) → closes k (o .loops) ≡ b
-        → cond b (goes Move.On (closed o)) (refused Refusal.NoMate o) .to ≡ Move.On → Onward n o (Line.Closes k)
+    by-test : (b : Bool) → closes k (o .around) ≡ b
+        → cond b (goes Move.On (closed o)) (refused Refusal.OutOfPlace o) .to ≡ Move.On → Onward n o (Line.Closes k)
     by-test true p x = record { may = tt; state = rw p refl }
     by-test false p x = absurd (refused-not-on x)
 onward n o (Line.Error v) e = absurd (ends-not-on e)
@@ -90,19 +90,19 @@ unfolding step
 ending n o Line.Quiet e = apart cc
 ending n o Line.Empty e = tt
 ending n o Line.Package e = apart cc
-ending n o (Line.Opens k w) {v} e = by-test (ltb (length (o .loops)) 8) (ltb (o .rows) n) e
+ending n o (Line.Opens k w) {v} e = by-test (ltb (length (o .around)) 8) (ltb (o .rows) n) e
   where
     by-test : (b b′ : Bool)
         → cond b (cond b′ (goes Move.On (opened k o)) (refused Refusal.ShortTable o))
-        (refused Refusal.NinthLoop o) .to ≡ Move.Ends v
+        (refused Refusal.NinthOpen o) .to ≡ Move.Ends v
         → ⊥
     by-test true true x = apart cc
     by-test true false x = refused-not-ends x
     by-test false b′ x = refused-not-ends x
-ending n o (Line.Closes k) {v} e = by-test (closes k (o .loops)) e
+ending n o (Line.Closes k) {v} e = by-test (closes k (o .around)) e
   where
     by-test : (b : Bool)
-        → cond b (goes Move.On (closed o)) (refused Refusal.NoMate o) .to ≡ Move.Ends v → ⊥
+        → cond b (goes Move.On (closed o)) (refused Refusal.OutOfPlace o) .to ≡ Move.Ends v → ⊥
     by-test true x = apart cc
     by-test false x = refused-not-ends x
 ending n o (Line.Error w) e = tt

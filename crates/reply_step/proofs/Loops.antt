@@ -1,4 +1,4 @@
--- Laws of the open loops, and of the step on them: the step on the array and the depth is 01's. Assumes nothing.
+-- Laws of what is open, and of the step on it: the step on the array and the depth is 01's. Assumes nothing.
 use mathlib.Core.Bool.{Bool, true, false, cond, false≢true}
 use mathlib.Core.List.{List, map}
 use mathlib.Core.Path.{_≡_, refl, sym, _∙_, ap, subst}
@@ -14,26 +14,26 @@ use Rattle.reply_line.specs.declared.Line.{Line}
 use Rattle.reply_line.specs.declared.Line.the-variants as Line
 use Rattle.reply_line.specs.declared.Refusal.the-variants as Refusal
 use Rattle.reply_line.specs.Line.{letterOf}
-use Rattle.reply_step.specs.declared.Loop.{Loop}
+use Rattle.reply_step.specs.declared.Opened.{Opened}
 use Rattle.reply_step.specs.declared.Move.the-variants as Move
 use Rattle.reply_step.specs.declared.Step.{Step}
 use Rattle.reply_step.specs.Code as Code
 use Rattle.reply_step.specs.Code.{stepIn, pushIn, popIn}
-use Rattle.reply_step.specs.Meaning.{noLoop, kindIn, kinds, meant, stepped, laid, arrayAfter, Steps}
+use Rattle.reply_step.specs.Meaning.{notOpen, kindIn, kinds, meant, stepped, laid, arrayAfter, Steps}
 use Rattle.reply_step.specs.Step.{closes, outer, goes, refused, opened, closed, step}
 use Rattle.reply_step.specs.declared.Open as coded
 
--- ---- the open loops
+-- ---- what is open
 
 module _ (st : coded.Open) where
   pub how-many : length (kinds st) ≡ st .depth
-  how-many = length-map (stack noLoop (st .loops) (st .depth)) kindIn ∙ stack-length noLoop (st .loops) (st .depth)
+  how-many = length-map (stack notOpen (st .around) (st .depth)) kindIn ∙ stack-length notOpen (st .around) (st .depth)
 
   -- the innermost, as the code finds it
   pub closes-top : (k : RowKind) → (st .depth ≡ 0 → ⊥)
-      → eqb (letterOf (getD (st .loops) (st .depth - 1) noLoop .kind)) (letterOf k) ≡ closes k (kinds st)
+      → eqb (letterOf (getD (st .around) (st .depth - 1) notOpen .kind)) (letterOf k) ≡ closes k (kinds st)
   unfolding closes
-  closes-top k some = rw (topmost noLoop (st .loops) (st .depth) some) refl
+  closes-top k some = rw (topmost notOpen (st .around) (st .depth) some) refl
 
   pub closes-none : (k : RowKind) → st .depth ≡ 0 → false ≡ closes k (kinds st)
   unfolding closes
@@ -46,17 +46,17 @@ module _ (st : coded.Open) where
       by-depth zero p = absurd (false≢true (closes-none k p ∙ e))
       by-depth (suc d) p = omega arith
 
-  is-opened : (k : RowKind) → length (st .loops) ≡ 8 → ltb (st .depth) 8 ≡ true
+  is-opened : (k : RowKind) → length (st .around) ≡ 8 → ltb (st .depth) 8 ≡ true
       → meant (pushIn k st) ≡ opened k (meant st)
   is-opened k eight e =
-      ap (λ (l : List Loop). record { loops = map kindIn l; rows = pushIn k st .rows })
-      (pushed noLoop (st .loops) (st .depth) (record { kind = k }) (omega (arith, ltb-true (st .depth) 8 e, eight)))
+      ap (λ (l : List Opened). record { around = map kindIn l; rows = pushIn k st .rows })
+      (pushed notOpen (st .around) (st .depth) (record { kind = k }) (omega (arith, ltb-true (st .depth) 8 e, eight)))
 
   is-closed : meant (popIn st) ≡ closed (meant st)
-  is-closed = ap (λ (l : List RowKind). record { loops = l; rows = st .rows }) (by-depth (st .depth))
+  is-closed = ap (λ (l : List RowKind). record { around = l; rows = st .rows }) (by-depth (st .depth))
     where
-      by-depth : (d : ℕ) → map kindIn (stack noLoop (st .loops) (d - 1))
-          ≡ outer (map kindIn (stack noLoop (st .loops) d))
+      by-depth : (d : ℕ) → map kindIn (stack notOpen (st .around) (d - 1))
+          ≡ outer (map kindIn (stack notOpen (st .around) d))
       by-depth zero = refl
       by-depth (suc d) =
           let e : suc d - 1 ≡ d = omega arith in
@@ -71,12 +71,12 @@ module _ (n : ℕ) (st : coded.Open) where
   at-end = rw (how-many st) (by-test (leb 1 (st .depth)))
     where
       by-test : (b : Bool)
-          → stepped (cond b (Code.to (Move.Refused Refusal.NoMate) st) (Code.to (Move.Ends 0) st))
-          ≡ cond b (refused Refusal.NoMate (meant st)) (goes (Move.Ends 0) (meant st))
+          → stepped (cond b (Code.to (Move.Refused Refusal.OutOfPlace) st) (Code.to (Move.Ends 0) st))
+          ≡ cond b (refused Refusal.OutOfPlace (meant st)) (goes (Move.Ends 0) (meant st))
       by-test true = refl
       by-test false = refl
 
-  at-opening : (k : RowKind) (v : ℕ) → length (st .loops) ≡ 8
+  at-opening : (k : RowKind) (v : ℕ) → length (st .around) ≡ 8
       → stepped (Code.openIn n k st) ≡ step n (Line.Opens k v) (meant st)
   unfolding step
   at-opening k v eight = rw (how-many st) (by-test (ltb (st .depth) 8) refl (ltb (st .rows) n))
@@ -84,10 +84,10 @@ module _ (n : ℕ) (st : coded.Open) where
       by-test : (b : Bool) → ltb (st .depth) 8 ≡ b → (b′ : Bool)
           → stepped (cond b
           (cond b′ (Code.to Move.On (pushIn k st)) (Code.to (Move.Refused Refusal.ShortTable) st))
-          (Code.to (Move.Refused Refusal.NinthLoop) st))
+          (Code.to (Move.Refused Refusal.NinthOpen) st))
           ≡ cond b
           (cond b′ (goes Move.On (opened k (meant st))) (refused Refusal.ShortTable (meant st)))
-          (refused Refusal.NinthLoop (meant st))
+          (refused Refusal.NinthOpen (meant st))
       by-test true e true = ap (goes Move.On) (is-opened st k eight e)
       by-test true e false = refl
       by-test false e b′ = refl
@@ -97,12 +97,12 @@ module _ (n : ℕ) (st : coded.Open) where
   at-closing k = by-test (closes k (kinds st))
     where
       by-test : (b : Bool)
-          → stepped (cond b (Code.to Move.On (popIn st)) (Code.to (Move.Refused Refusal.NoMate) st))
-          ≡ cond b (goes Move.On (closed (meant st))) (refused Refusal.NoMate (meant st))
+          → stepped (cond b (Code.to Move.On (popIn st)) (Code.to (Move.Refused Refusal.OutOfPlace) st))
+          ≡ cond b (goes Move.On (closed (meant st))) (refused Refusal.OutOfPlace (meant st))
       by-test true = ap (goes Move.On) (is-closed st)
       by-test false = refl
 
-  step-means : (l : Line) → length (st .loops) ≡ 8 → stepped (stepIn n l st) ≡ step n l (meant st)
+  step-means : (l : Line) → length (st .around) ≡ 8 → stepped (stepIn n l st) ≡ step n l (meant st)
   unfolding step stepIn
   step-means Line.Quiet eight = refl
   step-means Line.Empty eight = at-end
@@ -114,7 +114,7 @@ module _ (n : ℕ) (st : coded.Open) where
 
   -- what it leaves of the array
   abbrev Kept : Line → Step → Type 0
-  Kept l r = r .state .loops ≡ arrayAfter (r .to) l st
+  Kept l r = r .state .around ≡ arrayAfter (r .to) l st
 
   step-array : (l : Line) → Kept l (stepIn n l st)
   unfolding stepIn arrayAfter laid
@@ -122,7 +122,7 @@ module _ (n : ℕ) (st : coded.Open) where
   step-array Line.Empty = by-test (leb 1 (st .depth))
     where
       by-test : (b : Bool)
-          → Kept Line.Empty (cond b (Code.to (Move.Refused Refusal.NoMate) st) (Code.to (Move.Ends 0) st))
+          → Kept Line.Empty (cond b (Code.to (Move.Refused Refusal.OutOfPlace) st) (Code.to (Move.Ends 0) st))
       by-test true = refl
       by-test false = refl
   step-array Line.Package = refl
@@ -131,21 +131,21 @@ module _ (n : ℕ) (st : coded.Open) where
       by-test : (b b′ : Bool)
           → Kept (Line.Opens k v) (cond b
           (cond b′ (Code.to Move.On (pushIn k st)) (Code.to (Move.Refused Refusal.ShortTable) st))
-          (Code.to (Move.Refused Refusal.NinthLoop) st))
+          (Code.to (Move.Refused Refusal.NinthOpen) st))
       by-test true true = refl
       by-test true false = refl
       by-test false b′ = refl
   step-array (Line.Closes k) = by-test (closes k (kinds st))
     where
       by-test : (b : Bool)
-          → Kept (Line.Closes k) (cond b (Code.to Move.On (popIn st)) (Code.to (Move.Refused Refusal.NoMate) st))
+          → Kept (Line.Closes k) (cond b (Code.to Move.On (popIn st)) (Code.to (Move.Refused Refusal.OutOfPlace) st))
       by-test true = refl
       by-test false = refl
   step-array (Line.Error v) = refl
   step-array (Line.Refused r) = refl
 
 -- the code's step on a line that was found to be l
-pub does : {n : ℕ} {line l : Line} {st : coded.Open} {r : Step} → length (st .loops) ≡ 8 → line ≡ l → r ≡ stepIn n l st
+pub does : {n : ℕ} {line l : Line} {st : coded.Open} {r : Step} → length (st .around) ≡ 8 → line ≡ l → r ≡ stepIn n l st
     → Steps n line st r
 does {n} {line} {l} {st} {r} eight is e =
     let same : r ≡ stepIn n line st = e ∙ ap (λ (m : Line). stepIn n m st) (sym is) in

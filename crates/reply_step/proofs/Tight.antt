@@ -16,7 +16,7 @@ only-nothing-open a b p q = p ∙ sym q
 -- where it leads, the count of rows, the depth, and the whole array
 pub only-step-of : (n : ℕ) (l : Line) (st : coded.Open) (a b : Step) → Steps n l st a → Steps n l st b → a ≡ b
 only-step-of n l st a b p q =
-    λ i. record { to = to i; state = record { loops = loops i; depth = depth i; rows = rows i } }
+    λ i. record { to = to i; state = record { around = around i; depth = depth i; rows = rows i } }
   where
     same : stepped a ≡ stepped b
     same = p .means ∙ sym (q .means)
@@ -28,7 +28,7 @@ only-step-of n l st a b p q =
     rows = ap (λ (x : Next). x .state .rows) same
 
     depth : a .state .depth ≡ b .state .depth
-    depth = sym (how-many (a .state)) ∙ ap (λ (x : Next). length (x .state .loops)) same ∙ how-many (b .state)
+    depth = sym (how-many (a .state)) ∙ ap (λ (x : Next). length (x .state .around)) same ∙ how-many (b .state)
 
-    loops : a .state .loops ≡ b .state .loops
-    loops = p .array ∙ ap (λ (m : Move). arrayAfter m l st) to ∙ sym (q .array)
+    around : a .state .around ≡ b .state .around
+    around = p .array ∙ ap (λ (m : Move). arrayAfter m l st) to ∙ sym (q .array)

@@ -19,22 +19,22 @@ to m st = record { to = m; state = st }
 
 abbrev pub pushIn : RowKind → coded.Open → coded.Open
 pushIn k st =
-    record { loops = set (st .loops) (st .depth) (record { kind = k }); depth = st .depth + 1; rows = st .rows + 1 }
+    record { around = set (st .around) (st .depth) (record { kind = k }); depth = st .depth + 1; rows = st .rows + 1 }
 
 abbrev pub popIn : coded.Open → coded.Open
-popIn st = record { loops = st .loops; depth = st .depth - 1; rows = st .rows }
+popIn st = record { around = st .around; depth = st .depth - 1; rows = st .rows }
 
 abbrev pub endIn : coded.Open → Step
-endIn st = cond (leb 1 (st .depth)) (to (Move.Refused Refusal.NoMate) st) (to (Move.Ends 0) st)
+endIn st = cond (leb 1 (st .depth)) (to (Move.Refused Refusal.OutOfPlace) st) (to (Move.Ends 0) st)
 
 abbrev pub openIn : ℕ → RowKind → coded.Open → Step
 openIn n k st =
     cond (ltb (st .depth) 8)
     (cond (ltb (st .rows) n) (to Move.On (pushIn k st)) (to (Move.Refused Refusal.ShortTable) st))
-    (to (Move.Refused Refusal.NinthLoop) st)
+    (to (Move.Refused Refusal.NinthOpen) st)
 
 abbrev pub closeIn : RowKind → coded.Open → Step
-closeIn k st = cond (closes k (kinds st)) (to Move.On (popIn st)) (to (Move.Refused Refusal.NoMate) st)
+closeIn k st = cond (closes k (kinds st)) (to Move.On (popIn st)) (to (Move.Refused Refusal.OutOfPlace) st)
 
 unfoldable pub stepIn : ℕ → Line → coded.Open → Step
 stepIn n Line.Quiet st = to Move.On st

@@ -13,14 +13,14 @@ use Rattle.reply_line.specs.Line.{letterOf}
 use Rattle.reply_step.specs.declared.Move.{Move}
 use Rattle.reply_step.specs.declared.Move.the-variants as Move
 
--- the open loops, innermost first, and how many rows there are
+-- what is open, innermost first, and how many rows there are
 pub record Open : Type 0 where
-  pub loops : List RowKind
+  pub around : List RowKind
   pub rows : ℕ
 
 -- before the first line: the script's row alone
 abbrev pub begun : Open
-begun = record { loops = []; rows = 1 }
+begun = record { around = []; rows = 1 }
 
 -- where a line leads, and what is open then
 pub record Next : Type 0 where
@@ -44,21 +44,21 @@ outer [] = []
 outer (l ∷ ls) = ls
 
 abbrev pub opened : RowKind → Open → Open
-opened k st = record { loops = k ∷ st .loops; rows = st .rows + 1 }
+opened k st = record { around = k ∷ st .around; rows = st .rows + 1 }
 
 abbrev pub closed : Open → Open
-closed st = record { loops = outer (st .loops); rows = st .rows }
+closed st = record { around = outer (st .around); rows = st .rows }
 
 -- "Within a line the tests run 51, 40, 41, 52, 53, 54": what the line is by itself comes first
 unfoldable pub step : ℕ → Line → Open → Next
 unfolding closes
 step n Line.Quiet st = goes Move.On st
-step n Line.Empty st = cond (leb 1 (length (st .loops))) (refused Refusal.NoMate st) (goes (Move.Ends 0) st)
+step n Line.Empty st = cond (leb 1 (length (st .around))) (refused Refusal.OutOfPlace st) (goes (Move.Ends 0) st)
 step n Line.Package st = goes Move.On st
 step n (Line.Opens k v) st =
-    cond (ltb (length (st .loops)) 8)
+    cond (ltb (length (st .around)) 8)
     (cond (ltb (st .rows) n) (goes Move.On (opened k st)) (refused Refusal.ShortTable st))
-    (refused Refusal.NinthLoop st)
-step n (Line.Closes k) st = cond (closes k (st .loops)) (goes Move.On (closed st)) (refused Refusal.NoMate st)
+    (refused Refusal.NinthOpen st)
+step n (Line.Closes k) st = cond (closes k (st .around)) (goes Move.On (closed st)) (refused Refusal.OutOfPlace st)
 step n (Line.Error v) st = goes (Move.Ends v) st
 step n (Line.Refused r) st = refused r st

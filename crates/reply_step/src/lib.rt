@@ -1,24 +1,24 @@
-// What a line of a reply does: to the open loops, to the count of rows, and to the reading.
+// What a line of a reply does: to what is open, to the count of rows, and to the reading.
 ghost use mathlib.Core.Path.{_≡_};
 ghost use lib.ListN.{getD};
 ghost use Rattle.reply_step.specs.Step.{closes};
-ghost use Rattle.reply_step.specs.Meaning.{noLoop, kinds, bare, Steps};
+ghost use Rattle.reply_step.specs.Meaning.{notOpen, kinds, bare, Steps};
 ghost use Rattle.reply_step.specs.Code.{to, endIn, openIn, closeIn};
 use reply_line::Line;
 use reply_line::Refusal;
 use reply_line::RowKind;
 
-// The most open loops.
-const MOST_LOOPS: usize = 8;
+// The most that may be open at once.
+const MOST_OPEN: usize = 8;
 
-// An open loop, by its kind.
-pub struct Loop {
+// What an opening mark has opened, by its kind.
+pub struct Opened {
     pub kind: RowKind,
 }
 
-// The open loops, innermost last, and how many rows there are.
+// What is open, innermost last, and how many rows there are.
 pub struct Open {
-    pub loops: [Loop; 8],
+    pub around: [Opened; MOST_OPEN],
     pub depth: usize,
     pub rows: usize,
 }
@@ -40,27 +40,27 @@ pub fn nothing_open() -> Open
     ensures { λ r. ⌜ r ≡ bare ⌝ }
 {
     Open {
-        loops: [Loop {
+        around: [Opened {
             kind: RowKind::Script,
-        }; 8],
+        }; MOST_OPEN],
         depth: 0,
         rows: 1,
     }
 }
 
-// The kind of the loop at a place; past the array, the script's.
+// The kind of what is open at a place; past the array, the script's.
 fn kind_at(st: Open, at: usize) -> RowKind
-    ensures { λ r. ⌜ r ≡ getD (st .loops) at noLoop .kind ⌝ }
+    ensures { λ r. ⌜ r ≡ getD (st .around) at notOpen .kind ⌝ }
 {
-    if at < MOST_LOOPS {
-        let found = st.loops[at];
+    if at < MOST_OPEN {
+        let found = st.around[at];
         found.kind
     } else {
         RowKind::Script
     }
 }
 
-// Whether a mark closes the innermost open loop.
+// Whether a mark closes the innermost that is open.
 fn closes_it(k: RowKind, st: Open) -> bool
     ensures { λ r. ⌜ r ≡ closes k (kinds st) ⌝ }
 {
@@ -86,28 +86,28 @@ fn end_reply(st: Open) -> Step
     ensures { λ r. ⌜ r ≡ endIn st ⌝ }
 {
     if 1 <= st.depth {
-        step_to(Move::Refused(Refusal::NoMate), st)
+        step_to(Move::Refused(Refusal::OutOfPlace), st)
     } else {
         step_to(Move::Ends(0), st)
     }
 }
 
 // An opening mark, with n rows to write.
-fn open_loop(k: RowKind, st: Open, n: usize) -> Step
+fn open_mark(k: RowKind, st: Open, n: usize) -> Step
     ensures { λ r. ⌜ r ≡ openIn n k st ⌝ }
 {
-    if MOST_LOOPS <= st.depth {
-        return step_to(Move::Refused(Refusal::NinthLoop), st);
+    if MOST_OPEN <= st.depth {
+        return step_to(Move::Refused(Refusal::NinthOpen), st);
     }
     if n <= st.rows {
         return step_to(Move::Refused(Refusal::ShortTable), st);
     }
     let d = st.depth;
     let r = st.rows;
-    let mut loops = st.loops;
-    loops[d] = Loop { kind: k };
+    let mut around = st.around;
+    around[d] = Opened { kind: k };
     let inner = Open {
-        loops: loops,
+        around: around,
         depth: d + 1,
         rows: r + 1,
     };
@@ -115,19 +115,19 @@ fn open_loop(k: RowKind, st: Open, n: usize) -> Step
 }
 
 // A closing mark.
-fn close_loop(k: RowKind, st: Open) -> Step
+fn close_mark(k: RowKind, st: Open) -> Step
     ensures { λ r. ⌜ r ≡ closeIn k st ⌝ }
 {
     if closes_it(k, st) {
-        let loops = st.loops;
+        let around = st.around;
         let outer = Open {
-            loops: loops,
+            around: around,
             depth: st.depth - 1,
             rows: st.rows,
         };
         step_to(Move::On, outer)
     } else {
-        step_to(Move::Refused(Refusal::NoMate), st)
+        step_to(Move::Refused(Refusal::OutOfPlace), st)
     }
 }
 
@@ -139,8 +139,8 @@ pub fn step_of(line: Line, st: Open, n: usize) -> Step
         Line::Quiet => step_to(Move::On, st),
         Line::Package => step_to(Move::On, st),
         Line::Empty => end_reply(st),
-        Line::Opens(k, _) => open_loop(k, st, n),
-        Line::Closes(k) => close_loop(k, st),
+        Line::Opens(k, _) => open_mark(k, st, n),
+        Line::Closes(k) => close_mark(k, st),
         Line::Error(v) => step_to(Move::Ends(v), st),
         Line::Refused(r) => step_to(Move::Refused(r), st),
     }

@@ -4,11 +4,11 @@ use mathlib.Core.Path.{_≡_, sym, ap}
 use native.Mathlib.Omega.{arith}
 use Rattle.reply_step.proofs.kind_at.Statement.{statement}
 use Rattle.reply_step.proofs.kind_at.Tie as tie
-use Rattle.reply_step.specs.Meaning.{noLoop, kindIn}
+use Rattle.reply_step.specs.Meaning.{notOpen, kindIn}
 
 -- at the start: the array has eight places
 module _ (c : tie.Start) where
-  eight : length (c .args .t1 .loops) ≡ 8
+  eight : length (c .args .t1 .around) ≡ 8
   eight = simp length-map at (c .good .0 .1 .1 .0 .1 .0 .1)
 
 element-copy-out-found : tie.Need-element-copy-out-found
@@ -20,7 +20,7 @@ returns c = search needs
 returns-2 : tie.Need-returns-2
 returns-2 c =
     let d = c .before in
-    sym (ap kindIn (List·getD-eq-default (d .args .t1 .loops) noLoop (omega (arith, eight d, c .if1 .left))))
+    sym (ap kindIn (List·getD-eq-default (d .args .t1 .around) notOpen (omega (arith, eight d, c .if1 .left))))
 
 pub kind-at-spec : {M : Type 1} → statement M
 kind-at-spec = tie.close (tie.spec element-copy-out-found returns returns-2)

@@ -8,7 +8,7 @@ use Rattle.reply_step.specs.Code.{stepIn}
 
 -- at the start: the array has eight places
 module _ (c : tie.Start) where
-  eight : length (c .args .st .loops) ≡ 8
+  eight : length (c .args .st .around) ≡ 8
   eight = simp length-map at (c .good .1 .0 .1 .1 .0 .1 .0 .1)
 
 enum-told : tie.Need-enum-told
@@ -32,14 +32,14 @@ end-reply-requires c κs = search needs
 enum-known-line : tie.Need-enum-known-line
 enum-known-line c = search needs
 
-open-loop-requires : tie.Need-open-loop-requires
-open-loop-requires c κs = search needs
+open-mark-requires : tie.Need-open-mark-requires
+open-mark-requires c κs = search needs
 
 enum-known-line-2 : tie.Need-enum-known-line-2
 enum-known-line-2 c = search needs
 
-close-loop-requires : tie.Need-close-loop-requires
-close-loop-requires c κs = search needs
+close-mark-requires : tie.Need-close-mark-requires
+close-mark-requires c κs = search needs
 
 enum-known-line-3 : tie.Need-enum-known-line-3
 enum-known-line-3 c = search needs
@@ -68,12 +68,12 @@ returns-3 c = does (eight (c .before .before .before)) (c .before .enum-told3 .g
 returns-4 : tie.Need-returns-4
 unfolding stepIn
 returns-4 c =
-    does (eight (c .before .before .before .before)) (c .before .before .line .given .1) (c .open-loop .ensures)
+    does (eight (c .before .before .before .before)) (c .before .before .line .given .1) (c .open-mark .ensures)
 
 returns-5 : tie.Need-returns-5
 unfolding stepIn
 returns-5 c =
-    does (eight (c .before .before .before .before)) (c .before .before .line2 .given .1) (c .close-loop .ensures)
+    does (eight (c .before .before .before .before)) (c .before .before .line2 .given .1) (c .close-mark .ensures)
 
 returns-6 : tie.Need-returns-6
 unfolding stepIn
@@ -90,6 +90,6 @@ step-of-spec =
     tie.close
     (tie.spec
     enum-told step-to-requires enum-told-2 step-to-requires-2 enum-told-3 end-reply-requires
-    enum-known-line open-loop-requires enum-known-line-2 close-loop-requires enum-known-line-3
+    enum-known-line open-mark-requires enum-known-line-2 close-mark-requires enum-known-line-3
     step-to-requires-3 enum-known-line-4 step-to-requires-4 returns returns-2 returns-3 returns-4
     returns-5 returns-6 returns-7)

@@ -1,8 +1,8 @@
 use borrow.Author.Needs.{needs}
 use mathlib.Core.Bool.{true}
 use mathlib.Core.Path.{_≡_, sym, _∙_}
-use Rattle.reply_step.proofs.close_loop.Statement.{statement}
-use Rattle.reply_step.proofs.close_loop.Tie as tie
+use Rattle.reply_step.proofs.close_mark.Statement.{statement}
+use Rattle.reply_step.proofs.close_mark.Tie as tie
 use Rattle.reply_step.proofs.Loops.{closes-some}
 use Rattle.reply_step.specs.Meaning.{kinds}
 use Rattle.reply_step.specs.Step.{closes}
@@ -35,7 +35,7 @@ returns c = c .step-to .ensures ∙ simp (closed (c .before .before .before))
 returns-2 : tie.Need-returns-2
 returns-2 c = c .step-to2 .ensures ∙ simp (sym (c .before .before .closes-it .ensures) ∙ c .before .if1 .left)
 
-pub close-loop-spec : {M : Type 1} → statement M
-close-loop-spec =
+pub close-mark-spec : {M : Type 1} → statement M
+close-mark-spec =
     tie.close
     (tie.spec closes-it-requires sub-t7 step-to-requires step-to-requires-2 returns returns-2)

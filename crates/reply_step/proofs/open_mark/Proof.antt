@@ -3,10 +3,10 @@ use borrow.Author.Tests.{lt-ltb, le-ltb}
 use lib.Dec.{ltb}
 use mathlib.Core.Bool.{true}
 use mathlib.Core.Path.{_≡_, _∙_}
-use Rattle.reply_step.proofs.open_loop.Statement.{statement}
-use Rattle.reply_step.proofs.open_loop.Tie as tie
+use Rattle.reply_step.proofs.open_mark.Statement.{statement}
+use Rattle.reply_step.proofs.open_mark.Tie as tie
 
--- where there are fewer than eight open loops
+-- where there are fewer than eight are open
 module _ (c : tie.Else1) where
   shallow : ltb (c .before .before .args .st .depth) 8 ≡ true
   shallow = lt-ltb _ _ (c .if1 .left)
@@ -25,8 +25,8 @@ returns-2 c =
     let d = c .before .before .before in
     c .step-to2 .ensures ∙ simp (shallow d, le-ltb _ _ (c .before .if2 .taken))
 
-array-set-from-loops : tie.Need-array-set-from-loops
-array-set-from-loops c = search needs
+array-set-from-around : tie.Need-array-set-from-around
+array-set-from-around c = search needs
 
 add-t17 : tie.Need-add-t17
 add-t17 c = search needs
@@ -42,9 +42,9 @@ returns-3 c =
     let d = c .before .before .before .before in
     c .step-to3 .ensures ∙ simp (shallow d, lt-ltb _ _ (c .before .before .if2 .left))
 
-pub open-loop-spec : {M : Type 1} → statement M
-open-loop-spec =
+pub open-mark-spec : {M : Type 1} → statement M
+open-mark-spec =
     tie.close
     (tie.spec
-    step-to-requires returns step-to-requires-2 returns-2 array-set-from-loops add-t17 add-t18
+    step-to-requires returns step-to-requires-2 returns-2 array-set-from-around add-t17 add-t18
     step-to-requires-3 returns-3)
