@@ -1,6 +1,7 @@
 pub mod Lines
 pub mod Course
 pub mod Rows
+pub mod Inside
 pub mod Turns
 pub mod Pass
 pub mod Whole

@@ -1,6 +1,6 @@
 -- Rows in front of lent numbers, four a row: a row is read back and put, so the second pass writes the definition's.
 -- Assumes nothing.
-use mathlib.Core.Bool.{false}
+use mathlib.Core.Bool.{true, false}
 use mathlib.Core.List.{List, [], _∷_, _++_, append-assoc, append-nil}
 use mathlib.Core.Path.{_≡_, refl, sym, _∙_, ap, ap₂}
 use native.Mathlib.Nat.{suc-add, mod-eq-of-lt}
@@ -66,20 +66,15 @@ unfolding kindOf letterOf
 kind-back RowKind.Script = refl
 kind-back RowKind.Sweep = refl
 kind-back RowKind.Loop = refl
+kind-back RowKind.Scan = refl
 
--- by the tests that the code makes
-module _ (x m p : ℕ) (measuring : m ≡ letterOf RowKind.Sweep) (plain : p ≡ letterOf RowKind.Loop)
-    (not-m : x ≡ m → ⊥) where
-  other : eqb x (letterOf RowKind.Sweep) ≡ false
-  other = ne-eqb x (letterOf RowKind.Sweep) (λ e. not-m (e ∙ sym measuring))
+-- by the tests that the code makes: x is the letter of k, or is not
+module _ {x m : ℕ} (k : RowKind) (letter : m ≡ letterOf k) where
+  pub letter-is : x ≡ m → eqb x (letterOf k) ≡ true
+  letter-is e = eq-eqb x (letterOf k) (e ∙ letter)
 
-  pub kind-plain : x ≡ p → RowKind.Loop ≡ kindOf x
-  unfolding kindOf
-  kind-plain e = rw (other, eq-eqb x (letterOf RowKind.Loop) (e ∙ plain)) refl
-
-  pub kind-script : (x ≡ p → ⊥) → RowKind.Script ≡ kindOf x
-  unfolding kindOf
-  kind-script n = rw (other, ne-eqb x (letterOf RowKind.Loop) (λ e. n (e ∙ sym plain))) refl
+  pub letter-not : (x ≡ m → ⊥) → eqb x (letterOf k) ≡ false
+  letter-not n = ne-eqb x (letterOf k) (λ e. n (e ∙ sym letter))
 
 same-row : (lent : List ℕ) (rows : List Row) (i : ℕ) → i < length rows
     → rowAt (put lent 0 (listed rows)) i ≡ getD rows i scriptRow

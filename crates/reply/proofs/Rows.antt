@@ -1,6 +1,6 @@
--- Laws of the rows: one more than opening marks; their packages are the package lines; a parent stands before its row;
--- the answer counts them. Assumes nothing.
-use mathlib.Core.List.{List, [], _∷_, _++_}
+-- Laws of the rows: one more than opening marks, in opening order; their packages are the package lines; a parent stands
+-- before its row; the answer counts them. Assumes nothing.
+use mathlib.Core.List.{List, [], _∷_, _++_, map, append-assoc, append-nil}
 use mathlib.Core.Path.{_≡_, refl, sym, _∙_, ap, subst}
 use native.Mathlib.Decide.{decLt}
 use native.Mathlib.Omega.{arith}
@@ -9,6 +9,7 @@ use lib.ListN.{length, getD, set, length-set, length-append, List·getD-append, 
 use lib.Seq.{getD-set-same, getD-set-other, getD-at}
 use Rattle.text.specs.Cut.{lines}
 use Rattle.reply_line.specs.declared.RowKind.{RowKind}
+use Rattle.reply_line.specs.declared.RowKind.the-variants as RowKind
 use Rattle.reply_line.specs.declared.Line.{Line}
 use Rattle.reply_line.specs.declared.Line.the-variants as Line
 use Rattle.reply_step.specs.declared.Move.the-variants as Move
@@ -19,7 +20,7 @@ use Rattle.reply.specs.declared.Answer.the-variants as Answer
 use Rattle.reply.specs.declared.Row.{Row}
 use Rattle.reply.specs.Reply.{verdictFrom}
 use Rattle.reply.specs.Rows.{scriptRow, newRow, raised, rowsAfter, holderAfter, rowsOf, seenIn}
-use Rattle.reply.specs.Rows.{isOpening, isPackage, countBy, packagesOf}
+use Rattle.reply.specs.Rows.{isOpening, opens, openings, isPackage, countBy, packagesOf}
 use Rattle.reply.proofs.Course.{Place, past, makesFrom, readsFrom, saysFrom, Done, by-lines}
 
 -- ---- what holds at every line: the rows are counted, the innermost is one, and parents stand before their rows
@@ -36,13 +37,13 @@ pub record Sound (o : Open) (at : ℕ) (rows : List Row) : Type 0 where
 module _ {o : Open} {at : ℕ} {rows : List Row} (g : Sound o at rows) where
   -- an opening mark: one row more, whose parent is the innermost
   module _ (k : RowKind) (v : ℕ) where
-    abbrev longer : List Row
+    abbrev pub longer : List Row
     longer = rows ++ (newRow k v at ∷ [])
 
-    one-longer : length longer ≡ length rows + 1
+    pub one-longer : length longer ≡ length rows + 1
     one-longer = length-append rows (newRow k v at ∷ [])
 
-    same-row : (i : ℕ) → i < length rows → rowAt longer i ≡ rowAt rows i
+    pub same-row : (i : ℕ) → i < length rows → rowAt longer i ≡ rowAt rows i
     same-row i h = List·getD-append rows (newRow k v at ∷ []) scriptRow i h
 
     parent-before : (i : ℕ) → i < length longer → 0 < i → Dec (i < length rows) → rowAt longer i .parent < i
@@ -62,36 +63,34 @@ module _ {o : Open} {at : ℕ} {rows : List Row} (g : Sound o at rows) where
         }
 
   -- a package: one count is raised, nothing else moves
-  abbrev counting : List Row
+  abbrev pub counting : List Row
   counting = set rows at (raised (rowAt rows at))
 
-  as-long : length counting ≡ length rows
+  pub as-long : length counting ≡ length rows
   as-long = length-set rows at (raised (rowAt rows at))
 
-  same-parents : (i : ℕ) → i < length rows → rowAt counting i .parent ≡ rowAt rows i .parent
-  same-parents i h = by-place (decLt i at) (decLt at i)
+  pub same-but-count : {X : Type 0} (f : Row → X) → ((r : Row) → f (raised r) ≡ f r) → (i : ℕ)
+      → f (rowAt counting i) ≡ f (rowAt rows i)
+  same-but-count f same i = by-place (decLt i at) (decLt at i)
     where
-      by-place : Dec (i < at) → Dec (at < i) → rowAt counting i .parent ≡ rowAt rows i .parent
-      by-place (yes p) q =
-          ap (λ (r : Row). r .parent)
-          (getD-set-other rows at i (raised (rowAt rows at)) scriptRow (λ e. omega arith))
-      by-place (no p) (yes q) =
-          ap (λ (r : Row). r .parent)
-          (getD-set-other rows at i (raised (rowAt rows at)) scriptRow (λ e. omega arith))
+      by-place : Dec (i < at) → Dec (at < i) → f (rowAt counting i) ≡ f (rowAt rows i)
+      by-place (yes p) q = ap f (getD-set-other rows at i (raised (rowAt rows at)) scriptRow (λ e. omega arith))
+      by-place (no p) (yes q) = ap f (getD-set-other rows at i (raised (rowAt rows at)) scriptRow (λ e. omega arith))
       by-place (no p) (no q) =
           let e : i ≡ at = omega arith in
-          subst (λ (m : ℕ). rowAt counting m .parent ≡ rowAt rows m .parent) (sym e)
-          (ap (λ (r : Row). r .parent) (getD-set-same rows at (raised (rowAt rows at)) scriptRow (g .holder)))
+          subst (λ (m : ℕ). f (rowAt counting m) ≡ f (rowAt rows m)) (sym e)
+          (ap f (getD-set-same rows at (raised (rowAt rows at)) scriptRow (g .holder)) ∙ same (rowAt rows at))
+
+  same-parents : (i : ℕ) → rowAt counting i .parent ≡ rowAt rows i .parent
+  same-parents = same-but-count (λ (r : Row). r .parent) (λ r. refl)
 
   sound-package : Sound o at counting
   sound-package =
       record {
         counted = g .counted ∙ sym as-long;
         holder = omega (arith, as-long, g .holder);
-        own = same-parents 0 (omega (arith, g .holder)) ∙ g .own;
-        up = λ i h p.
-            subst (λ (m : ℕ). m < i) (sym (same-parents i (omega (arith, as-long))))
-            (g .up i (omega (arith, as-long)) p);
+        own = same-parents 0 ∙ g .own;
+        up = λ i h p. subst (λ (m : ℕ). m < i) (sym (same-parents i)) (g .up i (omega (arith, as-long)) p);
       }
 
   -- a closing mark leads back to the parent, which is a row too
@@ -164,6 +163,29 @@ total-after (Line.Closes k) at rows h = omega arith
 total-after (Line.Error v) at rows h = omega arith
 total-after (Line.Refused r) at rows h = omega arith
 
+-- the kind and the code of a row
+abbrev pub marking : Row → RowKind × ℕ
+marking r = (r .kind, r .mark)
+
+marks-append : (rows : List Row) (r : Row) → map marking (rows ++ (r ∷ [])) ≡ map marking rows ++ (marking r ∷ [])
+marks-append [] r = refl
+marks-append (x ∷ rows) r = ap (λ (l : List (RowKind × ℕ)). marking x ∷ l) (marks-append rows r)
+
+marks-raised : (rows : List Row) (j : ℕ) → map marking (set rows j (raised (rowAt rows j))) ≡ map marking rows
+marks-raised [] j = refl
+marks-raised (x ∷ rows) zero = refl
+marks-raised (x ∷ rows) (suc j) = ap (λ (l : List (RowKind × ℕ)). marking x ∷ l) (marks-raised rows j)
+
+marks-after : (l : Line) (at : ℕ) (rows : List Row) → map marking (rowsAfter l at rows) ≡ map marking rows ++ opens l
+unfolding rowsAfter opens
+marks-after Line.Quiet at rows = sym (append-nil (map marking rows))
+marks-after Line.Empty at rows = sym (append-nil (map marking rows))
+marks-after Line.Package at rows = marks-raised rows at ∙ sym (append-nil (map marking rows))
+marks-after (Line.Opens k v) at rows = marks-append rows (newRow k v at)
+marks-after (Line.Closes k) at rows = sym (append-nil (map marking rows))
+marks-after (Line.Error v) at rows = sym (append-nil (map marking rows))
+marks-after (Line.Refused r) at rows = sym (append-nil (map marking rows))
+
 pub one-of : (rs : List Row) (i : ℕ) → getD rs i scriptRow .packages ≤ packagesOf rs
 unfolding packagesOf
 one-of [] i = omega arith
@@ -176,9 +198,10 @@ none-yet = refl
 
 -- ---- from a place on
 
--- the rows grow by the opening marks, and their packages by the package lines
+-- the rows grow by the opening marks, in their order, and their packages by the package lines
 pub record Grown (p : Place) (out : List Row) (seen : List Line) : Type 0 where
   pub rows : length out ≡ length (p .rows) + countBy isOpening seen
+  pub marks : map marking out ≡ map marking (p .rows) ++ openings seen
   pub packages : packagesOf out ≡ packagesOf (p .rows) + countBy isPackage seen
 
 -- each parent stands before its row, and row 0 is its own
@@ -193,14 +216,14 @@ pub record Right (n : ℕ) (p : Place) (out : List Row) (seen : List Line) (v : 
   pub counted : {c u r : ℕ} → v ≡ Answer.Read c u r → length out ≡ r
   pub fits : {c u r : ℕ} → p .state .rows ≤ n → v ≡ Answer.Read c u r → r ≤ n
 
-abbrev SoundAt : Place → Type 0
+abbrev pub SoundAt : Place → Type 0
 SoundAt p = Sound (p .state) (p .holder) (p .rows)
 
 right-done : (n : ℕ) (p : Place) (v : Answer) → Done p v → SoundAt p → Right n p (p .rows) [] v
-unfolding countBy
+unfolding countBy openings
 right-done n p v d g =
     record {
-      grown = record { rows = omega arith; packages = omega arith };
+      grown = record { rows = omega arith; marks = sym (append-nil (map marking (p .rows))); packages = omega arith };
       rooted = record { own = g .own; up = g .up };
       counted = λ e. sym (g .counted) ∙ d .counted e;
       fits = λ h e. omega (arith, d .counted e, h);
@@ -222,11 +245,14 @@ still-fits n l o y h = subst (λ (x : Open). x .rows ≤ n) (sym (y .state)) (by
 right-on : (n : ℕ) (p : Place) (l : Line) (x : ℕ) (out : List Row) (seen : List Line) (v : Answer) → p .used < x
     → step n l (p .state) .to ≡ Move.On → (SoundAt (past n l x p) → Right n (past n l x p) out seen v)
     → SoundAt p → Right n p out (l ∷ seen) v
-unfolding countBy
+unfolding countBy openings
 right-on n p l x out seen v more e rest g =
     record {
       grown = record {
         rows = omega (arith, next .grown .rows, length-after l (p .holder) (p .rows));
+        marks = next .grown .marks
+            ∙ ap (λ (m : List (RowKind × ℕ)). m ++ openings seen) (marks-after l (p .holder) (p .rows))
+            ∙ append-assoc (map marking (p .rows)) (opens l) (openings seen);
         packages = omega (arith, next .grown .packages, total-after l (p .holder) (p .rows) (g .holder));
       };
       rooted = next .rooted;
@@ -262,6 +288,10 @@ module _ (n : ℕ) (s : List ℕ) where
   -- the count of rows is one more than the opening marks read
   pub rows-counted : length (rowsOf n s) ≡ 1 + countBy isOpening (seenIn n s)
   rows-counted = from-outset .grown .rows
+
+  -- in the order of opening, the script in front
+  pub in-opening-order : map marking (rowsOf n s) ≡ (RowKind.Script, 0) ∷ openings (seenIn n s)
+  in-opening-order = from-outset .grown .marks
 
   -- the rows' packages are the package lines
   pub packages-counted : packagesOf (rowsOf n s) ≡ countBy isPackage (seenIn n s)

@@ -50,7 +50,8 @@ unfoldable pub kindOf : ℕ → RowKind
 unfolding letterOf
 kindOf letter =
     cond (eqb letter (letterOf RowKind.Sweep)) RowKind.Sweep
-    (cond (eqb letter (letterOf RowKind.Loop)) RowKind.Loop RowKind.Script)
+    (cond (eqb letter (letterOf RowKind.Loop)) RowKind.Loop
+    (cond (eqb letter (letterOf RowKind.Scan)) RowKind.Scan RowKind.Script))
 
 unfoldable pub rowAt : List ℕ → ℕ → Row
 unfolding kindOf

@@ -1,5 +1,5 @@
 -- 01, Packages and replies: the rows. "row 0 is the script, then one row a loop in opening order, with kind, code,
--- parent row and packages directly inside". Assumes nothing.
+-- parent row and packages directly inside"; and one row a scan, as 02 has it. Assumes nothing.
 use mathlib.Core.Path.{_≡_}
 use mathlib.Core.List.{List, [], _∷_, _++_}
 use Prim.Native.Nat.{ℕ, _+_}
@@ -123,6 +123,21 @@ isOpening (Line.Opens k v) = 1
 isOpening (Line.Closes k) = 0
 isOpening (Line.Error v) = 0
 isOpening (Line.Refused r) = 0
+
+-- the kind and the code of an opening mark
+unfoldable pub opens : Line → List (RowKind × ℕ)
+opens Line.Quiet = []
+opens Line.Empty = []
+opens Line.Package = []
+opens (Line.Opens k v) = (k, v) ∷ []
+opens (Line.Closes k) = []
+opens (Line.Error v) = []
+opens (Line.Refused r) = []
+
+unfoldable pub openings : List Line → List (RowKind × ℕ)
+unfolding opens
+openings [] = []
+openings (l ∷ ls) = opens l ++ openings ls
 
 unfoldable pub isPackage : Line → ℕ
 isPackage Line.Quiet = 0

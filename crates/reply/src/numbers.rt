@@ -23,6 +23,9 @@ fn kind_of(letter: u32) -> RowKind
     if letter == reply_line::letter(RowKind::Loop) as u32 {
         return RowKind::Loop;
     }
+    if letter == reply_line::letter(RowKind::Scan) as u32 {
+        return RowKind::Scan;
+    }
     RowKind::Script
 }
 

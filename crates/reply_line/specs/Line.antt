@@ -1,6 +1,6 @@
--- 01, Packages and replies: what one line of a reply is, by itself. Assumes nothing.
+-- 01, Packages and replies, with 02's scans: what one line of a reply is, by itself. Assumes nothing.
 use lib.Dec.{leb, ltb, eqb}
-use lib.ListN.{length, getD}
+use lib.ListN.{length, getD, drop}
 use mathlib.Core.Bool.{Bool, _&&_, _||_, cond}
 use mathlib.Core.List.{List, [], _∷_}
 use Prim.Native.Nat.{ℕ}
@@ -12,6 +12,7 @@ use Rattle.reply_line.specs.declared.Line.{Line}
 use Rattle.reply_line.specs.declared.Refusal.the-variants as Refusal
 use Rattle.reply_line.specs.declared.Refusal.{Refusal}
 use Rattle.text.specs.Bytes.{byte}
+use Rattle.text.specs.Decimal.{digitRun}
 use Rattle.text.specs.declared.Hex.the-variants as Hex
 use Rattle.text.specs.declared.Hex.{Hex}
 use Rattle.text.specs.Hex.{readHex}
@@ -28,11 +29,12 @@ numberOf Refusal.NinthOpen = 53
 numberOf Refusal.ShortTable = 54
 numberOf Refusal.TooLong = 55
 
--- the kinds of rows: S, M, L
+-- the kinds of rows: S, M, L; 02: "a row of kind C"
 unfoldable pub letterOf : RowKind → ℕ
 letterOf RowKind.Script = byte "S"
 letterOf RowKind.Sweep = byte "M"
 letterOf RowKind.Loop = byte "L"
+letterOf RowKind.Scan = byte "C"
 
 abbrev pub unknown : Line
 unknown = Line.Refused Refusal.UnknownLine
@@ -84,6 +86,15 @@ unfoldable pub markLine : List ℕ → Line
 unfolding markOf
 markLine s = cond (eqb (length s) 5) (markOf (readHex 4 s 1)) unknown
 
+-- 02: "`C` opens a scan", mark 0000. The instrument prints the cycle's number behind it, four decimal digits, which is
+-- not kept
+unfoldable pub hasCycle : List ℕ → Bool
+hasCycle s = eqb (length s) 5 && eqb (digitRun (drop 1 s)) 4
+
+unfoldable pub scanLine : List ℕ → Line
+unfolding hasCycle aloneIn
+scanLine s = cond (hasCycle s) (Line.Opens RowKind.Scan 0) (aloneIn s (Line.Opens RowKind.Scan 0))
+
 -- a package, by its own verdict: 40 and 41 are given at the line
 unfoldable pub packageLine : Verdict → Line
 packageLine v =
@@ -108,6 +119,8 @@ laterRows pk s =
     ∷ (byte "Y", aloneIn s Line.Quiet)
     ∷ (byte "Z", aloneIn s Line.Quiet)
     ∷ (byte "e", laterError (errorCode s))
+    ∷ (byte "C", scanLine s)
+    ∷ (byte "-", aloneIn s (Line.Closes RowKind.Scan))
     ∷ []
 
 abbrev pub rowOf : ℕ → List (ℕ × Line) → Line
@@ -115,7 +128,7 @@ rowOf c [] = unknown
 rowOf c (r ∷ rs) = cond (eqb c (r .0)) (r .1) (rowOf c rs)
 
 unfoldable pub byFirst : Line → ℕ → List ℕ → Line
-unfolding aloneIn markLine laterError errorCode
+unfolding aloneIn markLine scanLine laterError errorCode
 byFirst pk c s = rowOf c (laterRows pk s)
 
 unfoldable pub laterLine : List ℕ → Line

@@ -2,16 +2,20 @@
 ghost use mathlib.Core.Path.{_≡_};
 ghost use mathlib.Core.Bool.{true};
 ghost use Rattle.reply_line.specs.Line.{numberOf, letterOf, endsError, errorCode, isE, firstLine};
-ghost use Rattle.reply_line.specs.Line.{aloneIn, markLine, packageLine, laterError, lineAt};
+ghost use Rattle.reply_line.specs.Line.{aloneIn, markLine, hasCycle, scanLine, packageLine, laterError, lineAt};
 ghost use Rattle.reply_line.specs.Code.{laterBy};
 ghost use Rattle.package.specs.Package.{verdictOf, packageOf};
 use text::Hex;
 
-// The kinds of rows: the script, and the kinds of loops.
+// A letter and four digits.
+const WITH_DIGITS: usize = 5;
+
+// The kinds of rows: the script, the kinds of loops, and a scan of a measuring loop.
 pub enum RowKind {
     Script,
     Sweep,
     Loop,
+    Scan,
 }
 
 pub enum Refusal {
@@ -52,7 +56,7 @@ pub fn number(refusal: Refusal) -> u8
     }
 }
 
-// The letter of a row: S for the script, M for a measuring loop, L for a loop.
+// The letter of a row: S for the script, M for a measuring loop, L for a loop, C for a scan.
 pub fn letter(kind: RowKind) -> u8
     ensures { λ r. ⌜ r ≡ letterOf kind ⌝ }
 {
@@ -60,6 +64,7 @@ pub fn letter(kind: RowKind) -> u8
         RowKind::Script => b'S',
         RowKind::Sweep => b'M',
         RowKind::Loop => b'L',
+        RowKind::Scan => b'C',
     }
 }
 
@@ -140,7 +145,7 @@ fn alone(s: &[u8], l: Line) -> Line
 fn mark_line(s: &[u8]) -> Line
     ensures { λ r. ⌜ r ≡ markLine (now (s .entry)) ⌝ }
 {
-    if s.len() == 5 {
+    if s.len() == WITH_DIGITS {
         match text::hex_at(s, 1, 4) {
             Hex::Number(v) => Line::Opens(RowKind::Sweep, v),
             Hex::Bad => Line::Refused(Refusal::UnknownLine),
@@ -148,6 +153,26 @@ fn mark_line(s: &[u8]) -> Line
     } else {
         Line::Refused(Refusal::UnknownLine)
     }
+}
+
+// The number that the instrument prints behind a scan's letter: four decimal digits.
+fn has_cycle(s: &[u8]) -> bool
+    ensures { λ r. ⌜ r ≡ hasCycle (now (s .entry)) ⌝ }
+{
+    if s.len() != WITH_DIGITS {
+        return false;
+    }
+    let cycle = text::decimal_at(s, 1);
+    cycle.next == WITH_DIGITS
+}
+
+fn scan_line(s: &[u8]) -> Line
+    ensures { λ r. ⌜ r ≡ scanLine (now (s .entry)) ⌝ }
+{
+    if has_cycle(s) {
+        return Line::Opens(RowKind::Scan, 0);
+    }
+    alone(s, Line::Opens(RowKind::Scan, 0))
 }
 
 fn package_line(s: &[u8]) -> Line
@@ -195,6 +220,8 @@ fn later_line(s: &[u8], known: bool) -> Line
             b'Y' => alone(s, Line::Quiet),
             b'Z' => alone(s, Line::Quiet),
             b'e' => error_line(s),
+            b'C' => scan_line(s),
+            b'-' => alone(s, Line::Closes(RowKind::Scan)),
             _ => Line::Refused(Refusal::UnknownLine),
         }
     } else {

@@ -10,8 +10,10 @@ use Rattle.reply_line.specs.declared.Line.{Line}
 use Rattle.reply_line.specs.declared.Line.the-variants as Line
 use Rattle.reply_line.specs.declared.Refusal.{Refusal}
 use Rattle.reply_line.specs.declared.Refusal.the-variants as Refusal
+use Rattle.reply_line.specs.declared.RowKind.{RowKind}
 use Rattle.reply_step.specs.declared.Move.the-variants as Move
-use Rattle.reply_step.specs.Step.{Open, goes, refused, closes, opened, closed, step}
+use Rattle.reply_step.specs.Step.{Open, Next, goes, refused, mayOpen, closes, mostOpen, opened, closed}
+use Rattle.reply_step.specs.Step.{step}
 
 pub refused-not-on : {r : Refusal} → Move.Refused r ≡ Move.On → ⊥
 refused-not-on e = apart cc
@@ -21,6 +23,13 @@ ends-not-on e = apart cc
 
 pub refused-not-ends : {r : Refusal} {v : ℕ} → Move.Refused r ≡ Move.Ends v → ⊥
 refused-not-ends e = apart cc
+
+-- what an opening mark does, by its three tests
+abbrev opening : RowKind → Open → Bool → Bool → Bool → Next
+opening k o a b c =
+    cond a
+    (cond b (cond c (goes Move.On (opened k o)) (refused Refusal.ShortTable o)) (refused Refusal.NinthOpen o))
+    (refused Refusal.OutOfPlace o)
 
 -- ---- a line that leads on
 
@@ -43,33 +52,45 @@ openAfter (Line.Closes k) o = closed o
 openAfter (Line.Error v) o = o
 openAfter (Line.Refused r) o = o
 
+-- a mark stands where it may
+abbrev pub InPlace : Open → Line → Type 0
+InPlace o Line.Quiet = Unit {0}
+InPlace o Line.Empty = Unit {0}
+InPlace o Line.Package = Unit {0}
+InPlace o (Line.Opens k v) = mayOpen k (o .around) ≡ true
+InPlace o (Line.Closes k) = closes k (o .around) ≡ true
+InPlace o (Line.Error v) = Unit {0}
+InPlace o (Line.Refused r) = Unit {0}
+
 pub record Onward (n : ℕ) (o : Open) (l : Line) : Type 0 where
   pub may : LeadsOn n o l
+  pub place : InPlace o l
   pub state : step n l o .state ≡ openAfter l o
 
 pub onward : (n : ℕ) (o : Open) (l : Line) → step n l o .to ≡ Move.On → Onward n o l
 unfolding step
-onward n o Line.Quiet e = record { may = tt; state = refl }
+onward n o Line.Quiet e = record { may = tt; place = tt; state = refl }
 onward n o Line.Empty e = absurd (by-test (leb 1 (length (o .around))) e)
   where
     by-test : (b : Bool) → cond b (refused Refusal.OutOfPlace o) (goes (Move.Ends 0) o) .to ≡ Move.On → ⊥
     by-test true x = refused-not-on x
     by-test false x = ends-not-on x
-onward n o Line.Package e = record { may = tt; state = refl }
-onward n o (Line.Opens k v) e = by-test (ltb (length (o .around)) 8) refl (ltb (o .rows) n) refl e
+onward n o Line.Package e = record { may = tt; place = tt; state = refl }
+onward n o (Line.Opens k v) e =
+    by-test (mayOpen k (o .around)) refl (ltb (length (o .around)) mostOpen) refl (ltb (o .rows) n) refl e
   where
-    by-test : (b : Bool) → ltb (length (o .around)) 8 ≡ b → (b′ : Bool) → ltb (o .rows) n ≡ b′
-        → cond b (cond b′ (goes Move.On (opened k o)) (refused Refusal.ShortTable o))
-        (refused Refusal.NinthOpen o) .to ≡ Move.On
-        → Onward n o (Line.Opens k v)
-    by-test true p true q x = record { may = ltb-true (o .rows) n q; state = rw (p, q) refl }
-    by-test true p false q x = absurd (refused-not-on x)
-    by-test false p b′ q x = absurd (refused-not-on x)
+    by-test : (a : Bool) → mayOpen k (o .around) ≡ a → (b : Bool) → ltb (length (o .around)) mostOpen ≡ b
+        → (c : Bool) → ltb (o .rows) n ≡ c → opening k o a b c .to ≡ Move.On → Onward n o (Line.Opens k v)
+    by-test true p true q true r x =
+        record { may = ltb-true (o .rows) n r; place = p; state = rw (p, q, r) refl }
+    by-test true p true q false r x = absurd (refused-not-on x)
+    by-test true p false q c r x = absurd (refused-not-on x)
+    by-test false p b q c r x = absurd (refused-not-on x)
 onward n o (Line.Closes k) e = by-test (closes k (o .around)) refl e
   where
     by-test : (b : Bool) → closes k (o .around) ≡ b
         → cond b (goes Move.On (closed o)) (refused Refusal.OutOfPlace o) .to ≡ Move.On → Onward n o (Line.Closes k)
-    by-test true p x = record { may = tt; state = rw p refl }
+    by-test true p x = record { may = tt; place = p; state = rw p refl }
     by-test false p x = absurd (refused-not-on x)
 onward n o (Line.Error v) e = absurd (ends-not-on e)
 onward n o (Line.Refused r) e = absurd (refused-not-on e)
@@ -90,15 +111,14 @@ unfolding step
 ending n o Line.Quiet e = apart cc
 ending n o Line.Empty e = tt
 ending n o Line.Package e = apart cc
-ending n o (Line.Opens k w) {v} e = by-test (ltb (length (o .around)) 8) (ltb (o .rows) n) e
+ending n o (Line.Opens k w) {v} e =
+    by-test (mayOpen k (o .around)) (ltb (length (o .around)) mostOpen) (ltb (o .rows) n) e
   where
-    by-test : (b b′ : Bool)
-        → cond b (cond b′ (goes Move.On (opened k o)) (refused Refusal.ShortTable o))
-        (refused Refusal.NinthOpen o) .to ≡ Move.Ends v
-        → ⊥
-    by-test true true x = apart cc
-    by-test true false x = refused-not-ends x
-    by-test false b′ x = refused-not-ends x
+    by-test : (a b c : Bool) → opening k o a b c .to ≡ Move.Ends v → ⊥
+    by-test true true true x = apart cc
+    by-test true true false x = refused-not-ends x
+    by-test true false c x = refused-not-ends x
+    by-test false b c x = refused-not-ends x
 ending n o (Line.Closes k) {v} e = by-test (closes k (o .around)) e
   where
     by-test : (b : Bool)

@@ -5,22 +5,23 @@ use mathlib.Core.Path.{_≡_, refl, sym, _∙_, ap, subst}
 use native.Mathlib.Omega.{arith}
 use Prim.Native.Nat.{ℕ, zero, suc, _-_, _≤_}
 use borrow.Author.Tests.{ltb-true}
-use lib.Dec.{leb, ltb, eqb}
+use lib.Dec.{leb, ltb}
 use lib.ListN.{length, getD, length-map}
 use Rattle.laws.specs.Stack.{stack}
 use Rattle.laws.proofs.Stack.{stack-length, pushed, topmost}
 use Rattle.reply_line.specs.declared.RowKind.{RowKind}
+use Rattle.reply_line.specs.declared.RowKind.the-variants as RowKind
 use Rattle.reply_line.specs.declared.Line.{Line}
 use Rattle.reply_line.specs.declared.Line.the-variants as Line
 use Rattle.reply_line.specs.declared.Refusal.the-variants as Refusal
-use Rattle.reply_line.specs.Line.{letterOf}
 use Rattle.reply_step.specs.declared.Opened.{Opened}
 use Rattle.reply_step.specs.declared.Move.the-variants as Move
 use Rattle.reply_step.specs.declared.Step.{Step}
 use Rattle.reply_step.specs.Code as Code
 use Rattle.reply_step.specs.Code.{stepIn, pushIn, popIn}
 use Rattle.reply_step.specs.Meaning.{notOpen, kindIn, kinds, meant, stepped, laid, arrayAfter, Steps}
-use Rattle.reply_step.specs.Step.{closes, outer, goes, refused, opened, closed, step}
+use Rattle.reply_step.specs.Step.{sameKind, innermost, mayOpen, closes, mostOpen, outer, goes, refused}
+use Rattle.reply_step.specs.Step.{opened, closed, step}
 use Rattle.reply_step.specs.declared.Open as coded
 
 -- ---- what is open
@@ -30,8 +31,14 @@ module _ (st : coded.Open) where
   how-many = length-map (stack notOpen (st .around) (st .depth)) kindIn ∙ stack-length notOpen (st .around) (st .depth)
 
   -- the innermost, as the code finds it
-  pub closes-top : (k : RowKind) → (st .depth ≡ 0 → ⊥)
-      → eqb (letterOf (getD (st .around) (st .depth - 1) notOpen .kind)) (letterOf k) ≡ closes k (kinds st)
+  pub innermost-top : (st .depth ≡ 0 → ⊥)
+      → getD (st .around) (st .depth - 1) notOpen .kind ≡ innermost (kinds st)
+  innermost-top some = rw (topmost notOpen (st .around) (st .depth) some) refl
+
+  pub innermost-none : st .depth ≡ 0 → RowKind.Script ≡ innermost (kinds st)
+  innermost-none none = rw none refl
+
+  pub closes-top : (k : RowKind) → (st .depth ≡ 0 → ⊥) → sameKind (innermost (kinds st)) k ≡ closes k (kinds st)
   unfolding closes
   closes-top k some = rw (topmost notOpen (st .around) (st .depth) some) refl
 
@@ -79,18 +86,24 @@ module _ (n : ℕ) (st : coded.Open) where
   at-opening : (k : RowKind) (v : ℕ) → length (st .around) ≡ 8
       → stepped (Code.openIn n k st) ≡ step n (Line.Opens k v) (meant st)
   unfolding step
-  at-opening k v eight = rw (how-many st) (by-test (ltb (st .depth) 8) refl (ltb (st .rows) n))
+  at-opening k v eight =
+      rw (how-many st) (by-test (mayOpen k (kinds st)) (ltb (st .depth) mostOpen) refl (ltb (st .rows) n))
     where
-      by-test : (b : Bool) → ltb (st .depth) 8 ≡ b → (b′ : Bool)
-          → stepped (cond b
-          (cond b′ (Code.to Move.On (pushIn k st)) (Code.to (Move.Refused Refusal.ShortTable) st))
+      by-test : (a b : Bool) → ltb (st .depth) mostOpen ≡ b → (c : Bool)
+          → stepped (cond a
+          (cond b
+          (cond c (Code.to Move.On (pushIn k st)) (Code.to (Move.Refused Refusal.ShortTable) st))
           (Code.to (Move.Refused Refusal.NinthOpen) st))
-          ≡ cond b
-          (cond b′ (goes Move.On (opened k (meant st))) (refused Refusal.ShortTable (meant st)))
-          (refused Refusal.NinthOpen (meant st))
-      by-test true e true = ap (goes Move.On) (is-opened st k eight e)
-      by-test true e false = refl
-      by-test false e b′ = refl
+          (Code.to (Move.Refused Refusal.OutOfPlace) st))
+          ≡ cond a
+          (cond b
+          (cond c (goes Move.On (opened k (meant st))) (refused Refusal.ShortTable (meant st)))
+          (refused Refusal.NinthOpen (meant st)))
+          (refused Refusal.OutOfPlace (meant st))
+      by-test true true e true = ap (goes Move.On) (is-opened st k eight e)
+      by-test true true e false = refl
+      by-test true false e c = refl
+      by-test false b e c = refl
 
   at-closing : (k : RowKind) → stepped (Code.closeIn k st) ≡ step n (Line.Closes k) (meant st)
   unfolding step
@@ -126,15 +139,18 @@ module _ (n : ℕ) (st : coded.Open) where
       by-test true = refl
       by-test false = refl
   step-array Line.Package = refl
-  step-array (Line.Opens k v) = by-test (ltb (st .depth) 8) (ltb (st .rows) n)
+  step-array (Line.Opens k v) = by-test (mayOpen k (kinds st)) (ltb (st .depth) mostOpen) (ltb (st .rows) n)
     where
-      by-test : (b b′ : Bool)
-          → Kept (Line.Opens k v) (cond b
-          (cond b′ (Code.to Move.On (pushIn k st)) (Code.to (Move.Refused Refusal.ShortTable) st))
+      by-test : (a b c : Bool)
+          → Kept (Line.Opens k v) (cond a
+          (cond b
+          (cond c (Code.to Move.On (pushIn k st)) (Code.to (Move.Refused Refusal.ShortTable) st))
           (Code.to (Move.Refused Refusal.NinthOpen) st))
-      by-test true true = refl
-      by-test true false = refl
-      by-test false b′ = refl
+          (Code.to (Move.Refused Refusal.OutOfPlace) st))
+      by-test true true true = refl
+      by-test true true false = refl
+      by-test true false c = refl
+      by-test false b c = refl
   step-array (Line.Closes k) = by-test (closes k (kinds st))
     where
       by-test : (b : Bool)

@@ -10,7 +10,7 @@ use Rattle.reply_line.specs.declared.Line.the-variants as Line
 use Rattle.reply_step.specs.declared.Move.{Move}
 use Rattle.reply_step.specs.declared.Move.the-variants as Move
 use Rattle.reply_step.specs.declared.Step.{Step}
-use Rattle.reply_step.specs.Step.{closes}
+use Rattle.reply_step.specs.Step.{mayOpen, closes, mostOpen}
 use Rattle.reply_step.specs.Meaning.{kinds}
 use Rattle.reply_step.specs.declared.Open as coded
 
@@ -29,9 +29,11 @@ endIn st = cond (leb 1 (st .depth)) (to (Move.Refused Refusal.OutOfPlace) st) (t
 
 abbrev pub openIn : ℕ → RowKind → coded.Open → Step
 openIn n k st =
-    cond (ltb (st .depth) 8)
+    cond (mayOpen k (kinds st))
+    (cond (ltb (st .depth) mostOpen)
     (cond (ltb (st .rows) n) (to Move.On (pushIn k st)) (to (Move.Refused Refusal.ShortTable) st))
-    (to (Move.Refused Refusal.NinthOpen) st)
+    (to (Move.Refused Refusal.NinthOpen) st))
+    (to (Move.Refused Refusal.OutOfPlace) st)
 
 abbrev pub closeIn : RowKind → coded.Open → Step
 closeIn k st = cond (closes k (kinds st)) (to Move.On (popIn st)) (to (Move.Refused Refusal.OutOfPlace) st)

@@ -13,7 +13,7 @@ use Rattle.reply_step.specs.declared.Opened.{Opened}
 use Rattle.reply_step.specs.declared.Move.{Move}
 use Rattle.reply_step.specs.declared.Move.the-variants as Move
 use Rattle.reply_step.specs.declared.Step.{Step}
-use Rattle.reply_step.specs.Step.{Open, Next, step}
+use Rattle.reply_step.specs.Step.{Open, Next, mostOpen, step}
 use Rattle.reply_step.specs.declared.Open as coded
 
 -- what stands past the array
@@ -35,7 +35,7 @@ stepped s = record { to = s .to; state = meant (s .state) }
 
 -- before the first line
 abbrev pub bare : coded.Open
-bare = record { around = replicate 8 notOpen; depth = 0; rows = 1 }
+bare = record { around = replicate mostOpen notOpen; depth = 0; rows = 1 }
 
 -- ---- the array
 

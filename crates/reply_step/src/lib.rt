@@ -1,7 +1,7 @@
 // What a line of a reply does: to what is open, to the count of rows, and to the reading.
 ghost use mathlib.Core.Path.{_≡_};
 ghost use lib.ListN.{getD};
-ghost use Rattle.reply_step.specs.Step.{closes};
+ghost use Rattle.reply_step.specs.Step.{sameKind, innermost, mayOpen, closes};
 ghost use Rattle.reply_step.specs.Meaning.{notOpen, kinds, bare, Steps};
 ghost use Rattle.reply_step.specs.Code.{to, endIn, openIn, closeIn};
 use reply_line::Line;
@@ -60,6 +60,33 @@ fn kind_at(st: Open, at: usize) -> RowKind
     }
 }
 
+fn same_kind(k: RowKind, l: RowKind) -> bool
+    ensures { λ r. ⌜ r ≡ sameKind k l ⌝ }
+{
+    reply_line::letter(k) == reply_line::letter(l)
+}
+
+// The kind of the innermost that is open; the script's where nothing is.
+fn innermost_in(st: Open) -> RowKind
+    ensures { λ r. ⌜ r ≡ innermost (kinds st) ⌝ }
+{
+    if st.depth == 0 {
+        return RowKind::Script;
+    }
+    kind_at(st, st.depth - 1)
+}
+
+// Whether a mark may open here: a scan only directly inside a measuring loop, nothing inside a scan.
+fn may_open(k: RowKind, st: Open) -> bool
+    ensures { λ r. ⌜ r ≡ mayOpen k (kinds st) ⌝ }
+{
+    let inside = innermost_in(st);
+    if same_kind(k, RowKind::Scan) {
+        return same_kind(inside, RowKind::Sweep);
+    }
+    !same_kind(inside, RowKind::Scan)
+}
+
 // Whether a mark closes the innermost that is open.
 fn closes_it(k: RowKind, st: Open) -> bool
     ensures { λ r. ⌜ r ≡ closes k (kinds st) ⌝ }
@@ -67,8 +94,8 @@ fn closes_it(k: RowKind, st: Open) -> bool
     if st.depth == 0 {
         return false;
     }
-    let innermost = kind_at(st, st.depth - 1);
-    reply_line::letter(innermost) == reply_line::letter(k)
+    let inside = innermost_in(st);
+    same_kind(inside, k)
 }
 
 // A step: where the line leads, and what is open then.
@@ -96,6 +123,9 @@ fn end_reply(st: Open) -> Step
 fn open_mark(k: RowKind, st: Open, n: usize) -> Step
     ensures { λ r. ⌜ r ≡ openIn n k st ⌝ }
 {
+    if !may_open(k, st) {
+        return step_to(Move::Refused(Refusal::OutOfPlace), st);
+    }
     if MOST_OPEN <= st.depth {
         return step_to(Move::Refused(Refusal::NinthOpen), st);
     }

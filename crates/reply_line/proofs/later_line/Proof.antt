@@ -65,6 +65,12 @@ alone-requires-7 c κs = search needs
 error-line-requires : tie.Need-error-line-requires
 error-line-requires c κs = search needs
 
+scan-line-requires : tie.Need-scan-line-requires
+scan-line-requires c κs = search needs
+
+alone-requires-8 : tie.Need-alone-requires-8
+alone-requires-8 c κs = search needs
+
 returns : tie.Need-returns
 unfolding byFirst
 returns c = c .mark-line .ensures ∙ by-first (c .before .before) (byte "M") (c .before .match .keys1)
@@ -119,14 +125,22 @@ unfolding byFirst
 returns-12 c = c .error-line .ensures ∙ by-first (c .before .before) (byte "e") (c .before .match .keys11)
 
 returns-13 : tie.Need-returns-13
-returns-13 c =
-    let d = c .before in
-    let other = apart (getD (s d) 0 0) (ascii "M*L+PThHYZe") _ (c .match .rest) in
-    sym (no-line (packageBy (known d) (s d)) _ (s d) other) ∙ by-first d _ refl
+unfolding byFirst
+returns-13 c = c .scan-line .ensures ∙ by-first (c .before .before) (byte "C") (c .before .match .keys12)
 
 returns-14 : tie.Need-returns-14
+unfolding byFirst
+returns-14 c = c .alone8 .ensures ∙ by-first (c .before .before) (byte "-") (c .before .match .keys13)
+
+returns-15 : tie.Need-returns-15
+returns-15 c =
+    let d = c .before in
+    let other = apart (getD (s d) 0 0) (ascii "M*L+PThHYZeC-") _ (c .match .rest) in
+    sym (no-line (packageBy (known d) (s d)) _ (s d) other) ∙ by-first d _ refl
+
+returns-16 : tie.Need-returns-16
 unfolding laterBy
-returns-14 c = simp (lt-leb _ _ (c .if1 .left))
+returns-16 c = simp (lt-leb _ _ (c .if1 .left))
 
 pub later-line-spec : {M : Type 1} → statement M
 later-line-spec =
@@ -134,5 +148,6 @@ later-line-spec =
     (tie.spec
     shared-slice-read-c mark-line-requires alone-requires alone-requires-2 alone-requires-3
     package-line-requires alone-requires-4 alone-requires-5 alone-requires-6 alone-requires-7
-    error-line-requires returns returns-2 returns-3 returns-4 returns-5 returns-6 returns-7
-    returns-8 returns-9 returns-10 returns-11 returns-12 returns-13 returns-14)
+    error-line-requires scan-line-requires alone-requires-8 returns returns-2 returns-3 returns-4
+    returns-5 returns-6 returns-7 returns-8 returns-9 returns-10 returns-11 returns-12 returns-13
+    returns-14 returns-15 returns-16)

@@ -14,6 +14,9 @@ enum-told-2 c = search needs
 enum-told-3 : tie.Need-enum-told-3
 enum-told-3 c = search needs
 
+enum-told-4 : tie.Need-enum-told-4
+enum-told-4 c = search needs
+
 returns : tie.Need-returns
 unfolding letterOf
 returns c = ap letterOf (sym (c .enum-told .given .1))
@@ -26,5 +29,9 @@ returns-3 : tie.Need-returns-3
 unfolding letterOf
 returns-3 c = ap letterOf (sym (c .enum-told3 .given .1))
 
+returns-4 : tie.Need-returns-4
+unfolding letterOf
+returns-4 c = ap letterOf (sym (c .enum-told4 .given .1))
+
 pub letter-spec : {M : Type 1} → statement M
-letter-spec = tie.close (tie.spec enum-told enum-told-2 enum-told-3 returns returns-2 returns-3)
+letter-spec = tie.close (tie.spec enum-told enum-told-2 enum-told-3 enum-told-4 returns returns-2 returns-3 returns-4)
