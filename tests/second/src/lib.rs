@@ -8,6 +8,7 @@ pub mod machine;
 pub mod package;
 pub mod reply;
 pub mod rules;
+pub mod scans;
 pub mod seeded;
 pub mod table;
 pub mod value;

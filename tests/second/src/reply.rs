@@ -1,4 +1,4 @@
-//! Replies: the marks of the loops and the packages inside them, as rows in a table that the caller lends.
+//! Replies: the marks of loops and scans and the packages inside them, as rows in a table that the caller lends.
 
 use crate::package;
 use crate::{hex_number, refuse, Lines, Refusal};
@@ -89,10 +89,15 @@ fn take(line: &[u8], open: &mut Vec<usize>, most_rows: usize, rows: &mut Vec<Row
         [b'T', ..] | [b'h' | b'H' | b'Y' | b'Z'] => return Ok(()),
         [b'*'] => return close(b'M', open, rows),
         [b'+'] => return close(b'L', open, rows),
+        [b'-'] => return close(b'C', open, rows),
         [b'L'] => (b'L', 0),
         [b'M', digits @ ..] if digits.len() == 4 => (b'M', hex_number(digits).ok_or(51u16)? as u16),
+        [b'C', number @ ..] if is_scan_number(number) => (b'C', 0),
         _ => return Err(51),
     };
+    if !stands_in(kind, rows[parent].kind) {
+        return Err(52);
+    }
     if open.len() == MOST_OPEN {
         return Err(53);
     }
@@ -104,6 +109,21 @@ fn take(line: &[u8], open: &mut Vec<usize>, most_rows: usize, rows: &mut Vec<Row
     Ok(())
 }
 
+/// What may follow a scan's `C`: nothing, or four decimal digits, as the instrument prints it. They are not kept.
+fn is_scan_number(text: &[u8]) -> bool {
+    text.is_empty() || text.len() == 4 && text.iter().all(u8::is_ascii_digit)
+}
+
+/// Whether one kind stands directly inside another: a scan in a measuring loop alone, a loop in anything but a scan.
+fn stands_in(kind: u8, outer: u8) -> bool {
+    if kind == b'C' {
+        outer == b'M'
+    } else {
+        outer != b'C'
+    }
+}
+
+/// Closes the innermost that is open, which must be of this kind.
 fn close(kind: u8, open: &mut Vec<usize>, rows: &[Row]) -> Result<(), u16> {
     match open.pop() {
         Some(row) if rows[row].kind == kind => Ok(()),
