@@ -3,10 +3,14 @@
 use second::cases::Case;
 use second::machine::{Answer, Machine, Ran, State, Stepped, Steps, MOST_STEPS};
 use second::reply::EMPTY;
+use second::scans::{any_mark, lines_met};
 use second::table::{Table, MOST_ITEMS};
 use second::{frame, load, package, reply, rules, Refusal};
 
 use crate::handed::reply_of;
+
+/// What a reply counts as in which a reader comes as far as a mark of a scan.
+pub const WITH_SCANS: &str = "reply with scans";
 
 /// How often each number, fault and stop was met.
 #[derive(Default, Clone)]
@@ -70,7 +74,13 @@ pub fn asked(case: &Case, hits: &mut Hits) -> Vec<Case> {
             asked.push(within(*length, table, state, steps, &run, hits));
         }
         Case::Package { bytes } => hits.refusal(&package::read(bytes)),
-        Case::Reply { rows, bytes } => hits.refusal(&reply::read(bytes, &mut vec![EMPTY; *rows])),
+        Case::Reply { rows, bytes } => {
+            let answer = reply::read(bytes, &mut vec![EMPTY; *rows]);
+            hits.refusal(&answer);
+            if any_mark(&lines_met(bytes, &answer)) {
+                hits.count(WITH_SCANS.into());
+            }
+        }
         Case::Row { row, bytes } => hits.refusal(&reply::row(bytes, *row)),
         Case::Table { .. } | Case::RunWithin { .. } | Case::RunSafe { .. } => {}
         Case::Lines { .. } | Case::Content { .. } => {}

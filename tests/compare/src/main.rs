@@ -7,7 +7,7 @@ use std::time::Instant;
 
 use compare::called::{asked_in_c, is_called};
 use compare::examples;
-use compare::judge::{asked, Hits};
+use compare::judge::{asked, Hits, WITH_SCANS};
 use compare::programs;
 use compare::proved::{fits, Answering, Program};
 use second::cases::{answer, as_asked, read_case, write_case, Case};
@@ -40,7 +40,7 @@ const SORTS: &[Sort] = &[
     Sort { name: "frame_read", count: 60_000, slow: 1, make: seeded::frame_read, called: true },
     Sort { name: "frame_write", count: 40_000, slow: 1, make: seeded::frame_write, called: true },
     Sort { name: "package", count: 50_000, slow: 1, make: seeded::package, called: false },
-    Sort { name: "reply", count: 50_000, slow: 1, make: seeded::reply, called: true },
+    Sort { name: "reply", count: 80_000, slow: 1, make: seeded::reply, called: true },
     Sort { name: "row", count: 10_000, slow: 1, make: seeded::row, called: true },
     Sort { name: "load", count: 100_000, slow: 1, make: seeded::load, called: false },
     Sort { name: "check", count: 100_000, slow: 2, make: seeded::check, called: true },
@@ -88,6 +88,8 @@ const NUMBERS: &[&str] = &[
     "budget under the count", "budget the count", "budget over the count", "budget the most", "over 64 steps",
 ];
 const LEAST: u64 = 50;
+/// How many of the replies must be such with scans.
+const LEAST_WITH_SCANS: u64 = 50_000;
 const SHOWN: usize = 3;
 /// How many cases a program is asked at one start, and how many programs run beside each other.
 const AT_ONCE: usize = 4000;
@@ -325,9 +327,10 @@ fn in_c() -> Vec<Box<dyn Answering>> {
 /// How many numbers were met too seldom.
 fn seldom(hits: &Hits) -> usize {
     let mut failed = 0;
-    for what in NUMBERS {
-        let met = hits.0.get(*what).copied().unwrap_or(0);
-        let enough = met >= LEAST;
+    let numbers = NUMBERS.iter().map(|what| (*what, LEAST));
+    for (what, least) in numbers.chain([(WITH_SCANS, LEAST_WITH_SCANS)]) {
+        let met = hits.0.get(what).copied().unwrap_or(0);
+        let enough = met >= least;
         println!("{what}: met {met} times{}", if enough { "" } else { ", too seldom" });
         failed += usize::from(!enough);
     }

@@ -1,10 +1,13 @@
 use super::{alike, expect, lines, refused, Example};
-use second::cases::Case;
+use second::cases::{self, Case};
+use second::reply::{Reply, ROWS};
+use second::scans::{bytes_of, READ, REFUSED};
 
 pub fn all() -> Vec<Example> {
     let packages = [packages(), cut_packages()];
     let replies = [replies(), refused_replies(), bounds(), cut_replies(), rows(), line_readers()];
-    packages.into_iter().chain(replies).flatten().collect()
+    let scans = [scans(), refused_scans(), many_scans()];
+    packages.into_iter().chain(replies).chain(scans).flatten().collect()
 }
 
 fn package(text: &str) -> Case {
@@ -154,7 +157,7 @@ fn refused_replies() -> Vec<Example> {
         ("e|hh|", 51, 2),
         ("e| |", 51, 2),
         ("e|\r|", 51, 2),
-        ("e|C|", 51, 2),
+        ("e|c|", 51, 2),
         ("e|L|x|", 51, 3),
         ("e|P|", 40, 2),
         ("e|L|Pda8000000u;|", 40, 3),
@@ -212,17 +215,21 @@ fn bounds() -> Vec<Example> {
 
 /// A good reply cut at every byte.
 fn cut_replies() -> Vec<Example> {
-    let text = lines("e|M0000|PdaDF5CB18n;ba9699F74p,14|L|h|Tx|Paa     nan|+|*|M0001|*|L|M0002|*|+||more");
+    let text = "e|M0000|PdaDF5CB18n;ba9699F74p,14|L|h|Tx|Paa     nan|+|*|M0001|*|L|M0002|C0001|h|-|C|-|*|+||more";
+    let text = lines(text);
     (0..=text.len()).map(|at| alike(Case::Reply { rows: 20, bytes: text[..at].to_vec() })).collect()
 }
 
 fn rows() -> Vec<Example> {
     let good = "e|L|M0001|Paa8000000 |*|+||";
+    let scan = "e|M0005|C0001|Paa8000000 |-|C|-|*||";
     let row = |row: usize, text: &str| Case::Row { row, bytes: lines(text) };
     vec![
         expect(row(0, good), "result=0\nkind=S\nmark=0000\nparent=0\npackages=0\n".into()),
         expect(row(1, good), "result=0\nkind=L\nmark=0000\nparent=0\npackages=0\n".into()),
         expect(row(2, good), "result=0\nkind=M\nmark=0001\nparent=1\npackages=1\n".into()),
+        expect(row(2, scan), "result=0\nkind=C\nmark=0000\nparent=1\npackages=1\n".into()),
+        expect(row(3, scan), "result=0\nkind=C\nmark=0000\nparent=1\npackages=0\n".into()),
         expect(row(3, good), refused_line(56, 0)),
         expect(row(usize::MAX, good), refused_line(56, 0)),
         expect(row(99, "e|*|"), refused_line(52, 2)),
@@ -244,6 +251,53 @@ fn line_readers() -> Vec<Example> {
         examples.push(alike(read(&"|".repeat(count))));
         examples.push(alike(read(&"x".repeat(count))));
         examples.push(alike(read(&format!("{}|", "x".repeat(count - 1)))));
+    }
+    examples
+}
+
+/// So many rows more than a reply has.
+const SPARE: usize = 2;
+
+/// Replies with scans by name, into just enough rows, into a few more, and into all.
+fn scans() -> Vec<Example> {
+    let mut examples = Vec::new();
+    for example in &READ {
+        let (bytes, rows) = (bytes_of(example.reply), example.rows());
+        let read = Reply { code: example.code, used: bytes.len(), rows: rows.len() };
+        let listing = cases::listing(Ok(read), &rows);
+        for lent in [rows.len(), rows.len() + SPARE, ROWS] {
+            examples.push(expect(Case::Reply { rows: lent, bytes: bytes.clone() }, listing.clone()));
+        }
+        for row in 0..=rows.len() {
+            examples.push(alike(Case::Row { row, bytes: bytes.clone() }));
+        }
+    }
+    examples
+}
+
+/// Those that are refused; also one row of them, which is refused alike where 1,024 are lent.
+fn refused_scans() -> Vec<Example> {
+    let mut examples = Vec::new();
+    for example in &REFUSED {
+        let (bytes, answer) = (bytes_of(example.reply), refused_line(example.number, example.line));
+        if example.lent == ROWS {
+            examples.push(expect(Case::Row { row: 0, bytes: bytes.clone() }, answer.clone()));
+        }
+        examples.push(expect(Case::Reply { rows: example.lent, bytes }, answer));
+    }
+    examples
+}
+
+/// As many scans in one sweep as a table of 1,024 rows has room for, one fewer and one more.
+fn many_scans() -> Vec<Example> {
+    let mut examples = Vec::new();
+    for scans in [1_021, 1_022, 1_023] {
+        let bytes = lines(&format!("e|M0001|{}*||", "C0001|-|".repeat(scans)));
+        for row in [0, 1, scans, scans + 1, scans + 2] {
+            examples.push(alike(Case::Row { row, bytes: bytes.clone() }));
+        }
+        let case = Case::Reply { rows: 1_024, bytes };
+        examples.push(if scans > 1_022 { expect(case, refused_line(54, 2 * 1_022 + 3)) } else { alike(case) });
     }
     examples
 }

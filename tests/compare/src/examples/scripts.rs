@@ -89,7 +89,7 @@ fn spoilt_lines() -> Vec<Example> {
 
 /// The numbers 10 to 18 as the rules name them.
 fn form() -> Vec<Example> {
-    let table: [(&str, u16, usize); 38] = [
+    let table: [(&str, u16, usize); 40] = [
         ("", 11, 1),
         ("cell_on", 11, 1),
         ("cell_on|", 11, 2),
@@ -99,6 +99,8 @@ fn form() -> Vec<Example> {
         ("#|  |\t#x|bad||", 14, 4),
         ("Cell_on||", 14, 1),
         ("on_finished||", 14, 1),
+        ("C||", 14, 1),
+        ("-||", 14, 1),
         ("cell_on\r||", 14, 1),
         ("cell_on\0||", 14, 1),
         ("\r||", 14, 1),

@@ -3,6 +3,7 @@
 use super::Seed;
 use crate::cases::Case;
 use crate::frame::crc16;
+use crate::Lines;
 
 /// A length that is often near a bound.
 fn length_near(seed: &mut Seed, bound: usize) -> usize {
@@ -112,38 +113,119 @@ pub fn package(seed: &mut Seed) -> Case {
     Case::Package { bytes }
 }
 
-/// Lines of a reply, in order, that open and close their loops.
-fn reply_lines(seed: &mut Seed) -> Vec<Vec<u8>> {
-    let mut lines = vec![b"e".to_vec()];
-    let mut open = Vec::new();
-    let deep = seed.one_in(3);
-    for _ in 0..seed.pick(&[0, 3, 8, 20, 60]) {
-        let most = if deep { 9 } else { 4 };
-        match seed.below(if deep { 6 } else { 10 }) {
-            0 | 1 if open.len() < most => {
-                let sweep = seed.one_in(2);
-                open.push(sweep);
-                lines.push(if sweep { format!("M{:04X}", seed.below(20)).into_bytes() } else { b"L".to_vec() });
+/// A line that opens and closes nothing: mostly a package.
+fn plain_line(seed: &mut Seed) -> Vec<u8> {
+    match seed.below(7) {
+        0 => [&b"T"[..], &any_content(seed).iter().map(|byte| byte | 32).collect::<Vec<u8>>()].concat(),
+        1 => vec![seed.pick(b"hHYZ")],
+        _ => package_line(seed, 100),
+    }
+}
+
+/// Lines of a reply that open and close their loops and scans in order.
+struct ReplyLines {
+    lines: Vec<Vec<u8>>,
+    /// The letters of the loops that are open.
+    open: Vec<u8>,
+}
+
+impl ReplyLines {
+    fn open(&mut self, seed: &mut Seed, letter: u8) {
+        self.open.push(letter);
+        self.lines.push(match letter {
+            b'M' => format!("M{:04X}", seed.below(20)).into_bytes(),
+            _ => vec![letter],
+        });
+    }
+
+    fn close(&mut self) {
+        self.lines.extend(self.open.pop().map(closing));
+    }
+
+    fn close_all(&mut self) {
+        (0..self.open.len()).for_each(|_| self.close());
+    }
+
+    fn in_a_sweep(&self) -> bool {
+        self.open.last() == Some(&b'M')
+    }
+
+    /// Some scans, empty ones too, with lines beside them.
+    fn scans(&mut self, seed: &mut Seed) {
+        for _ in 0..seed.pick(&[1, 1, 2, 3]) {
+            self.lines.push(scan_mark(seed));
+            self.lines.extend((0..seed.pick(&[0, 1, 2, 5])).map(|_| plain_line(seed)));
+            self.lines.push(closing(b'C'));
+            if seed.one_in(4) {
+                self.lines.push(plain_line(seed));
             }
-            2 if !open.is_empty() => lines.push(closing(open.pop())),
-            3 => lines.push([&b"T"[..], &any_content(seed).iter().map(|byte| byte | 32).collect::<Vec<u8>>()].concat()),
-            4 => lines.push(vec![seed.pick(b"hHYZ")]),
-            _ if !deep || seed.one_in(2) => lines.push(package_line(seed, 100)),
+        }
+    }
+
+    /// Loops and a sweep in them, so many that a scan in it is about the eighth that is open.
+    fn near_the_eighth(&mut self, seed: &mut Seed) {
+        for _ in 0..seed.within(MOST_OPEN - 3..=MOST_OPEN - 1) {
+            let letter = seed.pick(b"ML");
+            self.open(seed, letter);
+        }
+        self.open(seed, b'M');
+        self.scans(seed);
+    }
+}
+
+/// How many may be open.
+const MOST_OPEN: usize = 8;
+
+fn reply_lines(seed: &mut Seed) -> Vec<Vec<u8>> {
+    let mut reply = ReplyLines { lines: vec![b"e".to_vec()], open: Vec::new() };
+    let deep = seed.one_in(3);
+    let most = if deep { MOST_OPEN + 1 } else { 4 };
+    let scans = !seed.one_in(6);
+    for _ in 0..seed.pick(&[0, 3, 8, 20, 60]) {
+        match seed.below(if deep { 6 } else { 10 }) {
+            0 | 1 if reply.open.len() < most => {
+                let letter = seed.pick(b"ML");
+                reply.open(seed, letter);
+            }
+            2 => reply.close(),
+            3 | 4 if scans && reply.in_a_sweep() => reply.scans(seed),
+            _ if !deep || seed.one_in(2) => reply.lines.push(plain_line(seed)),
             _ => {}
         }
     }
-    if seed.one_in(8) {
-        lines.push(error_line(seed));
-    } else {
-        while !open.is_empty() {
-            lines.push(closing(open.pop()));
-        }
+    if scans && seed.one_in(10) {
+        reply.close_all();
+        reply.near_the_eighth(seed);
+    } else if scans && reply.open.len() < most && !reply.lines.iter().any(|line| is_scan_mark(line)) {
+        reply.open(seed, b'M');
+        reply.scans(seed);
     }
-    lines
+    if seed.one_in(8) {
+        reply.lines.push(error_line(seed));
+    } else {
+        reply.close_all();
+    }
+    reply.lines
 }
 
-fn closing(open: Option<bool>) -> Vec<u8> {
-    if open == Some(true) { b"*" } else { b"+" }.to_vec()
+/// The mark that closes what this letter opens.
+fn closing(letter: u8) -> Vec<u8> {
+    match letter {
+        b'M' => b"*".to_vec(),
+        b'C' => b"-".to_vec(),
+        _ => b"+".to_vec(),
+    }
+}
+
+/// A mark that opens a scan, mostly with digits, as the instrument prints it.
+fn scan_mark(seed: &mut Seed) -> Vec<u8> {
+    let number = match seed.below(4) {
+        0 => return b"C".to_vec(),
+        1 => seed.pick(&[9, 10, 99, 100, 999, 1_000, 9_999]),
+        2 => seed.below(10_000),
+        _ => seed.below(4),
+    };
+    format!("C{number:04}").into_bytes()
 }
 
 fn error_line(seed: &mut Seed) -> Vec<u8> {
@@ -151,6 +233,15 @@ fn error_line(seed: &mut Seed) -> Vec<u8> {
     let behind = seed.pick(&["", ": Line 3", ":", ": ", " ", ":x"]);
     format!("e!{code:04X}{behind}").into_bytes()
 }
+
+/// Whether a line of a good reply opens a scan.
+fn is_scan_mark(line: &[u8]) -> bool {
+    line.starts_with(b"C")
+}
+
+/// Lines that hardly ever belong where they are put.
+const ODD_LINES: [&[u8]; 15] =
+    [b"*", b"+", b"-", b"L", b"C", b"C0000", b"M0000", b"M000", b"M000a", b"e", b"", b"!4001", b"hh", b"x", b"P"];
 
 /// Changes the lines: one dropped, doubled, put elsewhere, or one that does not belong.
 fn spoil_lines(seed: &mut Seed, lines: &mut Vec<Vec<u8>>) {
@@ -164,26 +255,55 @@ fn spoil_lines(seed: &mut Seed, lines: &mut Vec<Vec<u8>>) {
             lines.insert(to, line);
         }
         3 => lines.insert(at, error_line(seed)),
-        4 => {
-            let marks = [&b"*"[..], b"+", b"L", b"M0000", b"M000", b"M000a", b"e", b"", b"!4001", b"hh", b"x", b"P"];
-            lines.insert(at, seed.pick(&marks).to_vec());
-        }
+        4 => lines.insert(at, seed.pick(&ODD_LINES).to_vec()),
         _ => seed.damage(&mut lines[at]),
     }
 }
 
+/// Lines that are nearly a mark of a scan.
+const NEARLY_MARKS: [&[u8]; 12] =
+    [b"C12", b"C000", b"C00000", b"C000A", b"C 001", b"c", b"C ", b" C", b"--", b"-x", b"- ", b"-0000"];
+
+/// Spoils a scan of a good reply, if there is one: its marks, where it stands, or what is in it.
+fn spoil_scan(seed: &mut Seed, lines: &mut Vec<Vec<u8>>) {
+    let scans: Vec<usize> = (0..lines.len()).filter(|&at| is_scan_mark(&lines[at])).collect();
+    if scans.is_empty() {
+        return;
+    }
+    let start = seed.pick(&scans);
+    let end = (start..lines.len()).find(|&at| lines[at] == b"-").expect("a good reply closes its scans");
+    match seed.below(6) {
+        0 => lines[seed.pick(&[start, end])] = seed.pick(&NEARLY_MARKS).to_vec(),
+        1 => lines[end] = seed.pick(&[&b"*"[..], b"+", b"C", b""]).to_vec(),
+        2 => lines.insert(seed.within(start + 1..=end), seed.pick(&[&b"L"[..], b"M0006", b"C0001", b"C"]).to_vec()),
+        3 => lines.insert(start, b"L".to_vec()),
+        4 => lines.insert(end, error_line(seed)),
+        _ => lines.swap(start - 1, start),
+    }
+}
+
+/// So many rows that a table of 1,024 is about full: loops, or the scans of one.
+fn many_rows(seed: &mut Seed) -> Vec<Vec<u8>> {
+    let pairs = seed.within(1018..=1026);
+    if seed.one_in(2) {
+        return [&b"M0001"[..], b"*"].repeat(pairs).into_iter().map(Vec::from).collect();
+    }
+    let scans = [&b"C0001"[..], b"-"].repeat(pairs);
+    [&[&b"M0001"[..]], &scans[..], &[b"*"]].concat().into_iter().map(Vec::from).collect()
+}
+
 fn reply_bytes(seed: &mut Seed) -> Vec<u8> {
     let mut lines = reply_lines(seed);
-    if seed.one_in(2) {
-        spoil_lines(seed, &mut lines);
+    match seed.below(6) {
+        0 | 1 => spoil_lines(seed, &mut lines),
+        2 => spoil_scan(seed, &mut lines),
+        _ => {}
     }
     match seed.below(400) {
         0 => lines.resize(seed.within(1..=9) + lines.len(), b"L".to_vec()),
         1 => {
-            let pairs = seed.within(1018..=1026);
-            let doubled = [b"M0001".to_vec(), b"*".to_vec()];
             let at = lines.len().min(1);
-            lines.splice(at..at, doubled.iter().cycle().take(2 * pairs).cloned());
+            lines.splice(at..at, many_rows(seed));
         }
         _ => {}
     }
@@ -207,11 +327,16 @@ fn reply_bytes(seed: &mut Seed) -> Vec<u8> {
     bytes
 }
 
+/// How many lines look like one that opens a loop or a scan.
+fn opening_lines(bytes: &[u8]) -> usize {
+    Lines::of(bytes).filter(|line| matches!(line, [b'L' | b'M' | b'C', ..])).count()
+}
+
 pub fn reply(seed: &mut Seed) -> Case {
     let bytes = reply_bytes(seed);
     let rows = match seed.below(6) {
         0 => seed.below(6),
-        1 => bytes.iter().filter(|&&byte| byte == b'L' || byte == b'M').count().min(1_022) + seed.below(3),
+        1 => opening_lines(&bytes).min(1_022) + seed.below(3),
         2 => 1_024,
         _ => seed.within(10..=80),
     };
@@ -253,4 +378,119 @@ pub fn content(seed: &mut Seed) -> Case {
         _ => seed.within(0..=line.len()),
     };
     Case::Content { line, length }
+}
+
+#[cfg(test)]
+mod tests {
+    use super::*;
+    use crate::reply::{read, Row, EMPTY};
+    use crate::scans::{any_mark, lines_met};
+    use std::collections::BTreeMap;
+
+    /// How many replies are looked at, and how many there must be of each sort.
+    const LOOKED_AT: u64 = 10_000;
+    const LEAST: [(&str, u64); 17] = [
+        ("with scans", 6_400),
+        ("read", 2_000),
+        ("read, an empty scan", 500),
+        ("read, several scans of a sweep", 500),
+        ("read, scans of two sweeps", 200),
+        ("read, packages in a scan and beside it", 500),
+        ("read, an error line in a scan", 50),
+        ("read, a scan the eighth that is open", 50),
+        ("51", 100),
+        ("52, a scan in no sweep", 100),
+        ("52, a scan in a scan", 100),
+        ("52, a loop in a scan", 50),
+        ("52, no scan to close", 50),
+        ("52, a loop closed in a scan", 50),
+        ("52, the empty line in a scan", 50),
+        ("53", 100),
+        ("54", 100),
+    ];
+
+    #[test]
+    fn scans_of_every_sort() {
+        let mut met: BTreeMap<&str, u64> = BTreeMap::new();
+        for number in 0..LOOKED_AT {
+            let Case::Reply { rows, bytes } = reply(&mut Seed::of(0, 0, number)) else { panic!("a reply is made") };
+            for sort in sorts(rows, &bytes) {
+                *met.entry(sort).or_default() += 1;
+            }
+        }
+        for (sort, least) in LEAST {
+            let count = met.get(sort).copied().unwrap_or(0);
+            assert!(count >= least, "{sort}: {count} of {LOOKED_AT}, not {least}");
+        }
+    }
+
+    /// The sorts of replies with scans that one is of.
+    fn sorts(lent: usize, bytes: &[u8]) -> Vec<&'static str> {
+        let mut rows = vec![EMPTY; lent];
+        let answer = read(bytes, &mut rows);
+        let lines = lines_met(bytes, &answer);
+        if !any_mark(&lines) {
+            return Vec::new();
+        }
+        let last = lines.len() - 1;
+        let before = open_after(&lines[..last]);
+        let mut sorts = vec!["with scans"];
+        match answer {
+            Ok(reply) if rows[..reply.rows].iter().any(|row| row.kind == b'C') => {
+                sorts.extend(sorts_read(&rows[..reply.rows]));
+                if before.last() == Some(&b'C') {
+                    sorts.push("read, an error line in a scan");
+                }
+                if (0..last).any(|end| matches!(open_after(&lines[..end])[..], [_, _, _, _, _, _, _, b'C'])) {
+                    sorts.push("read, a scan the eighth that is open");
+                }
+            }
+            Ok(_) => {}
+            Err(refusal) => sorts.extend(sort_refused(refusal.number, lines[last], before.last().copied())),
+        }
+        sorts
+    }
+
+    /// The letters of what is open behind these lines of a good reply.
+    fn open_after(lines: &[&[u8]]) -> Vec<u8> {
+        let mut open = Vec::new();
+        for line in lines {
+            match line.first() {
+                Some(&letter @ (b'L' | b'M' | b'C')) => open.push(letter),
+                Some(b'*' | b'+' | b'-') => drop(open.pop()),
+                _ => {}
+            }
+        }
+        open
+    }
+
+    fn sorts_read(rows: &[Row]) -> Vec<&'static str> {
+        let scans: Vec<&Row> = rows.iter().filter(|row| row.kind == b'C').collect();
+        let beside = |scan: &Row| rows[scan.parent].packages;
+        let two = |same: bool| scans.windows(2).any(|pair| (pair[0].parent == pair[1].parent) == same);
+        let found = [
+            (true, "read"),
+            (scans.iter().any(|scan| scan.packages == 0), "read, an empty scan"),
+            (two(true), "read, several scans of a sweep"),
+            (two(false), "read, scans of two sweeps"),
+            (scans.iter().any(|scan| scan.packages > 0 && beside(scan) > 0), "read, packages in a scan and beside it"),
+        ];
+        found.into_iter().filter(|(is, _)| *is).map(|(_, sort)| sort).collect()
+    }
+
+    /// The sort of a refusal that comes of a scan, by the line that is refused and what is the innermost open there.
+    fn sort_refused(number: u16, line: &[u8], innermost: Option<u8>) -> Option<&'static str> {
+        match (number, line, innermost) {
+            (51, [b'C' | b'-', ..], _) => Some("51"),
+            (52, [b'C', ..], Some(b'C')) => Some("52, a scan in a scan"),
+            (52, [b'C', ..], _) => Some("52, a scan in no sweep"),
+            (52, [b'L' | b'M', ..], _) => Some("52, a loop in a scan"),
+            (52, [b'-'], _) => Some("52, no scan to close"),
+            (52, [b'*' | b'+'], Some(b'C')) => Some("52, a loop closed in a scan"),
+            (52, [], Some(b'C')) => Some("52, the empty line in a scan"),
+            (53, [b'C', ..], _) => Some("53"),
+            (54, [b'C', ..], _) => Some("54"),
+            _ => None,
+        }
+    }
 }
