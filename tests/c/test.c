@@ -161,6 +161,7 @@ static void rows(const char *text, size_t room, unsigned result, size_t line, ui
 }
 
 static const char nested[] = "e|L|M0001|Paa8000000 |*|+||";
+static const char scanned[] = "e|M0005|C0001|Paa8000000 |-|C|-|*||";
 
 /* A reply with so many loops, one after the other. */
 static size_t loops(uint8_t *bytes, size_t count)
@@ -173,6 +174,18 @@ static size_t loops(uint8_t *bytes, size_t count)
     }
     memcpy(bytes + length, "\n\n", 2);
     return length + 2;
+}
+
+/* The letters of all rows of a sweep with two scans in it, by one call. */
+static void scans_listed(void)
+{
+    enum { ROWS = 4 };
+    uint32_t numbers[ROWS * SATV_NUMBERS_A_ROW];
+    const uint8_t *lent = lend_text(scanned, strlen(scanned), 0);
+    SatvReply read = satv_reply_rows(lent, strlen(scanned), numbers, ROWS * SATV_NUMBERS_A_ROW);
+    expect(same_reply(read, SATV_GOOD, 0, 0, strlen(scanned), ROWS), scanned);
+    for (size_t i = 0; i < ROWS; i++)
+        expect(numbers[i * SATV_NUMBERS_A_ROW] == (uint32_t)"SMCC"[i], "the letter of a scan");
 }
 
 /* As many rows as the table has, and one more. */
@@ -221,11 +234,19 @@ static void replies(void)
     reply("e|P|", SATV_BAD_PART, 2, 0, 0, 0);
     reply("e|L|L|L|L|L|L|L|L|L|", SATV_NINTH_LOOP, 10, 0, 0, 0);
     reply("", SATV_NO_ENDING, 1, 0, 0, 0);
+    reply(scanned, SATV_GOOD, 0, 0, strlen(scanned), 4);
+    reply("e|L|C|-|+||", SATV_NO_MATE, 3, 0, 0, 0);
+    reply("e|M0005|C|L|+|-|*||", SATV_NO_MATE, 4, 0, 0, 0);
+    reply("e|L|L|L|L|L|L|L|M0000|C|", SATV_NINTH_LOOP, 10, 0, 0, 0);
     row(nested, 0, SATV_GOOD, 0, 'S', 0, 0, 0);
     row(nested, 1, SATV_GOOD, 0, 'L', 0, 0, 0);
     row(nested, 2, SATV_GOOD, 0, 'M', 1, 1, 1);
     row(nested, 3, SATV_NO_SUCH_ROW, 0, 0, 0, 0, 0);
     row(nested, (size_t)-1, SATV_NO_SUCH_ROW, 0, 0, 0, 0, 0);
+    row(scanned, 1, SATV_GOOD, 0, 'M', 5, 0, 0);
+    row(scanned, 2, SATV_GOOD, 0, 'C', 0, 1, 1);
+    row(scanned, 3, SATV_GOOD, 0, 'C', 0, 1, 0);
+    row(scanned, 4, SATV_NO_SUCH_ROW, 0, 0, 0, 0, 0);
     row("e|*|", 9, SATV_NO_MATE, 2, 0, 0, 0, 0);
     row("", 0, SATV_NO_ENDING, 1, 0, 0, 0, 0);
     rows(nested, 12, SATV_GOOD, 0, 0, strlen(nested), 3);
@@ -235,9 +256,12 @@ static void replies(void)
     rows(nested, 4, SATV_SHORT_TABLE, 2, 0, 0, 0);
     rows(nested, 3, SATV_SHORT_TABLE, 1, 0, 0, 0);
     rows(nested, 0, SATV_SHORT_TABLE, 1, 0, 0, 0);
+    rows(scanned, 16, SATV_GOOD, 0, 0, strlen(scanned), 4);
+    rows(scanned, 15, SATV_SHORT_TABLE, 6, 0, 0, 0);
     rows("e|L|e!0010|", 100, SATV_GOOD, 0, 0x0010, 11, 2);
     rows("e|L||", 100, SATV_NO_MATE, 3, 0, 0, 0);
     rows("", 100, SATV_NO_ENDING, 1, 0, 0, 0);
+    scans_listed();
     many_rows();
     long_reply();
 }
@@ -316,7 +340,7 @@ static int any_case(int turn)
     static uint8_t bytes[400];
     size_t length = next_random() % sizeof bytes, room = next_random() % 40;
     for (size_t i = 0; i < length; i++)
-        bytes[i] = (uint8_t)("eM0L*+P\nda;F 8"[next_random() % 14]);
+        bytes[i] = (uint8_t)("eM0L*+C-P\nda;F 8"[next_random() % 16]);
     const uint8_t *lent = lend(bytes, length, turn % 2);
     SatvReply answer = satv_reply_read(lent, length);
     SatvReply listed = satv_reply_rows(lent, length, (uint32_t *)lend_room(room * 4, turn % 2), room);
