@@ -154,14 +154,15 @@ SatvFrame satv_frame_write(const uint8_t *content, size_t content_length, uint8_
  *           SATV_UNKNOWN_LINE    an unknown line
  *           SATV_BAD_PART        a package with a bad part
  *           SATV_TOO_MANY_PARTS  a package with a 17th part
- *           SATV_NO_MATE         a closing mark without its mate, or an ending line with a loop open
- *           SATV_NINTH_LOOP      a ninth open loop
+ *           SATV_NO_MATE         a closing mark without its mate, a loop or scan where none may stand, or an ending
+ *                                line with one open
+ *           SATV_NINTH_LOOP      a ninth open loop or scan
  *           SATV_SHORT_TABLE     more rows than the table has
  *           SATV_NO_ENDING       no ending line
  * code    the error line's code that ended the reply, 0 where an empty line did
  * line    the line of the refusal, from 1; 0 for SATV_LONG_REPLY, and where there is none
  * used    how many bytes the reply took, its last newline included
- * rows    how many rows there are: the script's, and one for each loop
+ * rows    how many rows there are: the script's, and one for each loop and each scan
  * (Of a refused reply code, used and rows are 0.)
  */
 typedef struct {
@@ -177,7 +178,8 @@ SatvReply satv_reply_read(const uint8_t *reply, size_t reply_length);
 
 /* Reads a whole reply, and puts all its rows into the lent numbers, SATV_NUMBERS_A_ROW to a row:
  *
- *   the letter of its kind   'S' for the script (row 0), 'M' for a measuring loop, 'L' for any other loop
+ *   the letter of its kind   'S' for the script (row 0), 'M' for a measuring loop, 'L' for any other loop, 'C' for a
+ *                            scan of a measuring loop
  *   its mark                 the code of a measuring loop's mark, otherwise 0
  *   its parent               the number of the row that it is directly inside; row 0 is its own
  *   its packages             how many packages are directly inside it
@@ -193,7 +195,7 @@ SatvReply satv_reply_rows(const uint8_t *reply, size_t reply_length, uint32_t *n
 /* One row of a reply.
  *
  * result    0; the reply's refusal, as above; or SATV_NO_SUCH_ROW
- * kind      'S', 'M' or 'L', as above
+ * kind      'S', 'M', 'L' or 'C', as above
  * mark      the code of a measuring loop's mark, otherwise 0
  * line      the line of the reply's refusal; otherwise 0
  * parent    the number of the row that it is directly inside; row 0 is its own

@@ -16,24 +16,24 @@ abbrev listed : List ℕ
 listed = 0x65 ∷ 10 ∷ 0x4D ∷ 0x30 ∷ 0x30 ∷ 0x30 ∷ 0x30 ∷ 10 ∷ 0x2A ∷ 10 ∷ 10 ∷ []
 
 pub listed-outcome : outcomeOf 1024 listed ≡ read 0 11 2
-unfolding outcomeOf meaning verdict verdictFrom step mayOpen closes letterOf lineAt firstLine laterLine byFirst isE withRow
-    aloneIn markLine markOf readHex hexFrom digitValue cut
+unfolding outcomeOf meaning verdict verdictFrom step mayOpen closes letterOf lineAt firstLine laterLine byFirst isE
+    withRow aloneIn markLine markOf readHex hexFrom digitValue cut
 listed-outcome = refl
 
 pub listed-rows : rowsOf 1024 listed ≡ scriptRow ∷ newRow RowKind.Sweep 0 0 ∷ []
-unfolding rowsOf rowsFrom rowsAfter holderAfter step mayOpen closes letterOf lineAt firstLine laterLine byFirst isE withRow
-    aloneIn markLine markOf readHex hexFrom digitValue cut
+unfolding rowsOf rowsFrom rowsAfter holderAfter step mayOpen closes letterOf lineAt firstLine laterLine byFirst isE
+    withRow aloneIn markLine markOf readHex hexFrom digitValue cut
 listed-rows = refl
 
 -- `e`, `L`, empty: open at the end, 52; without the empty line 50, one more than the lines read
 pub left-open : outcomeOf 1024 (0x65 ∷ 10 ∷ 0x4C ∷ 10 ∷ 10 ∷ []) ≡ refusal 52 3
-unfolding outcomeOf meaning numberOf verdict verdictFrom step mayOpen closes letterOf lineAt firstLine laterLine byFirst isE
-    withRow aloneIn cut
+unfolding outcomeOf meaning numberOf verdict verdictFrom step mayOpen closes letterOf lineAt firstLine laterLine byFirst
+    isE withRow aloneIn cut
 left-open = refl
 
 pub cut-short : outcomeOf 1024 (0x65 ∷ 10 ∷ 0x4C ∷ 10 ∷ []) ≡ refusal 50 3
-unfolding outcomeOf meaning numberOf verdict verdictFrom step mayOpen closes letterOf lineAt firstLine laterLine byFirst isE
-    withRow aloneIn cut
+unfolding outcomeOf meaning numberOf verdict verdictFrom step mayOpen closes letterOf lineAt firstLine laterLine byFirst
+    isE withRow aloneIn cut
 cut-short = refl
 
 -- `e`, `M0005`, `C`, `-`, `*`, empty: an empty scan is still a row, inside its measuring loop

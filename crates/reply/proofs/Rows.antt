@@ -1,5 +1,5 @@
--- Laws of the rows: one more than opening marks, in opening order; their packages are the package lines; a parent stands
--- before its row; the answer counts them. Assumes nothing.
+-- Laws of the rows: one more than opening marks, in opening order; their packages are the package lines; a parent
+-- stands before its row; the answer counts them. Assumes nothing.
 use mathlib.Core.List.{List, [], _∷_, _++_, map, append-assoc, append-nil}
 use mathlib.Core.Path.{_≡_, refl, sym, _∙_, ap, subst}
 use native.Mathlib.Decide.{decLt}

@@ -19,7 +19,7 @@ const MOST_BYTES: usize = 65536;
 // The rows of a table by value.
 const TABLE_ROWS: usize = 1024;
 
-// Row 0 is the script, the others are loops.
+// Row 0 is the script, the others are loops and scans.
 pub struct Row {
     pub kind: RowKind,
     pub mark: u32,
@@ -122,8 +122,8 @@ pub struct Seen {
     pub next: usize,
 }
 
-// Where the second pass stands: at a line, read already; where the last line ends; the row of the innermost open loop,
-// and how many rows there are.
+// Where the second pass stands: at a line, read already; where the last line ends; the row of the innermost that is
+// open, and how many rows there are.
 pub struct Stand {
     pub pos: usize,
     pub end: usize,

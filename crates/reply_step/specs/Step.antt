@@ -55,7 +55,7 @@ unfolding letterOf
 closes k [] = false
 closes k (l ∷ ls) = sameKind l k
 
--- "a ninth open loop", and 02: a scan "counts as open for 53"
+-- "ninth open loop", and 02: a scan "counts as open for 53"
 abbrev pub mostOpen : ℕ
 mostOpen = 8
 

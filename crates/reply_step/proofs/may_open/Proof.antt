@@ -22,14 +22,16 @@ returns : tie.Need-returns
 unfolding mayOpen
 returns c =
     let d = c .before .before in
-    rw (c .same-kind2 .ensures, d .before .innermost-in .ensures, sym (d .same-kind .ensures) ∙ c .before .if1 .taken) refl
+    let scan = sym (d .same-kind .ensures) ∙ c .before .if1 .taken in
+    rw (c .same-kind2 .ensures, d .before .innermost-in .ensures, scan) refl
 
 -- anything else
 returns-2 : tie.Need-returns-2
 unfolding mayOpen
 returns-2 c =
     let d = c .before .before in
-    rw (c .same-kind3 .ensures, d .before .innermost-in .ensures, sym (d .same-kind .ensures) ∙ c .before .if1 .left) refl
+    let other = sym (d .same-kind .ensures) ∙ c .before .if1 .left in
+    rw (c .same-kind3 .ensures, d .before .innermost-in .ensures, other) refl
 
 pub may-open-spec : {M : Type 1} → statement M
 may-open-spec =
