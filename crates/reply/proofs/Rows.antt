@@ -5,8 +5,9 @@ use mathlib.Core.Path.{_≡_, refl, sym, _∙_, ap, subst}
 use native.Mathlib.Decide.{decLt}
 use native.Mathlib.Omega.{arith}
 use Prim.Native.Nat.{ℕ, zero, suc, _+_, _≤_, _<_}
-use lib.ListN.{length, getD, set, length-set, length-append, List·getD-append, List·getD-eq-default}
-use lib.Seq.{getD-set-same, getD-set-other, getD-at}
+use borrow.Table.Elements.{map-app}
+use lib.ListN.{length, getD, set, length-set, length-append, List·getD-append, List·getD-eq-default, List·getD-map}
+use lib.Seq.{getD-at, map-set-same}
 use Rattle.text.specs.Cut.{lines}
 use Rattle.reply_line.specs.declared.RowKind.{RowKind}
 use Rattle.reply_line.specs.declared.RowKind.the-variants as RowKind
@@ -71,15 +72,11 @@ module _ {o : Open} {at : ℕ} {rows : List Row} (g : Sound o at rows) where
 
   pub same-but-count : {X : Type 0} (f : Row → X) → ((r : Row) → f (raised r) ≡ f r) → (i : ℕ)
       → f (rowAt counting i) ≡ f (rowAt rows i)
-  same-but-count f same i = by-place (decLt i at) (decLt at i)
-    where
-      by-place : Dec (i < at) → Dec (at < i) → f (rowAt counting i) ≡ f (rowAt rows i)
-      by-place (yes p) q = ap f (getD-set-other rows at i (raised (rowAt rows at)) scriptRow (λ e. omega arith))
-      by-place (no p) (yes q) = ap f (getD-set-other rows at i (raised (rowAt rows at)) scriptRow (λ e. omega arith))
-      by-place (no p) (no q) =
-          let e : i ≡ at = omega arith in
-          subst (λ (m : ℕ). f (rowAt counting m) ≡ f (rowAt rows m)) (sym e)
-          (ap f (getD-set-same rows at (raised (rowAt rows at)) scriptRow (g .holder)) ∙ same (rowAt rows at))
+  same-but-count {X} f same i =
+      sym (List·getD-map f counting i scriptRow)
+      ∙ ap (λ (l : List X). getD l i (f scriptRow))
+      (map-set-same f rows at (raised (rowAt rows at)) scriptRow (same (rowAt rows at)))
+      ∙ List·getD-map f rows i scriptRow
 
   same-parents : (i : ℕ) → rowAt counting i .parent ≡ rowAt rows i .parent
   same-parents = same-but-count (λ (r : Row). r .parent) (λ r. refl)
@@ -167,21 +164,13 @@ total-after (Line.Refused r) at rows h = omega arith
 abbrev pub marking : Row → RowKind × ℕ
 marking r = (r .kind, r .mark)
 
-marks-append : (rows : List Row) (r : Row) → map marking (rows ++ (r ∷ [])) ≡ map marking rows ++ (marking r ∷ [])
-marks-append [] r = refl
-marks-append (x ∷ rows) r = ap (λ (l : List (RowKind × ℕ)). marking x ∷ l) (marks-append rows r)
-
-marks-raised : (rows : List Row) (j : ℕ) → map marking (set rows j (raised (rowAt rows j))) ≡ map marking rows
-marks-raised [] j = refl
-marks-raised (x ∷ rows) zero = refl
-marks-raised (x ∷ rows) (suc j) = ap (λ (l : List (RowKind × ℕ)). marking x ∷ l) (marks-raised rows j)
-
 marks-after : (l : Line) (at : ℕ) (rows : List Row) → map marking (rowsAfter l at rows) ≡ map marking rows ++ opens l
 unfolding rowsAfter opens
 marks-after Line.Quiet at rows = sym (append-nil (map marking rows))
 marks-after Line.Empty at rows = sym (append-nil (map marking rows))
-marks-after Line.Package at rows = marks-raised rows at ∙ sym (append-nil (map marking rows))
-marks-after (Line.Opens k v) at rows = marks-append rows (newRow k v at)
+marks-after Line.Package at rows =
+    map-set-same marking rows at (raised (rowAt rows at)) scriptRow refl ∙ sym (append-nil (map marking rows))
+marks-after (Line.Opens k v) at rows = map-app marking rows (newRow k v at ∷ [])
 marks-after (Line.Closes k) at rows = sym (append-nil (map marking rows))
 marks-after (Line.Error v) at rows = sym (append-nil (map marking rows))
 marks-after (Line.Refused r) at rows = sym (append-nil (map marking rows))
