@@ -5,6 +5,8 @@
 // To add an op: write `pub fn NAME(case: &[u8], out: &mut [u8]) -> usize` in the file of its group, here or in
 // `wire_ops`, which puts the answer into `out` and answers how many bytes it has; add a row to OPS, and an arm at the
 // same place to `answer_op`.
+#![tactic(auto)]
+
 mod runs;
 mod scripts;
 

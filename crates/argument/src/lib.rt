@@ -1,4 +1,6 @@
 // What an argument's word says where a form is asked, or what is wrong with it.
+#![tactic(auto)]
+
 ghost use Rattle.std.specs.Prelude.{◌≡◌, ◌≤◌, length};
 ghost use Rattle.argument.specs.Refusal.{number_of};
 ghost use Rattle.argument.specs.Holds.{name_of, operand_of, value_of, letters_of, small_of};
@@ -13,7 +15,7 @@ use value::{Comparison, Literal, Value};
 use word::{Class, Found, Small, TypeName};
 
 // What is wrong with a script's text.
-#[derive(Drop)]
+#[derive(Clone, Copy)]
 pub enum Refusal {
     TooLong,
     NoEnd,
@@ -27,7 +29,7 @@ pub enum Refusal {
 }
 
 // What is asked of an argument's word.
-#[derive(Drop)]
+#[derive(Clone, Copy)]
 pub enum Form {
     Nothing,
     New,
@@ -41,7 +43,7 @@ pub enum Form {
 }
 
 // What an argument's word says.
-#[derive(Drop)]
+#[derive(Clone, Copy)]
 pub enum Argument {
     Nothing,
     Name(usize),
@@ -55,7 +57,7 @@ pub enum Argument {
 }
 
 // An argument, and where in the line its word stopped.
-#[derive(Drop)]
+#[derive(Clone, Copy)]
 pub struct Said {
     pub argument: Argument,
     pub stop: usize,

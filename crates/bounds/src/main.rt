@@ -1,4 +1,6 @@
 // The bounds of the rules, each met and each passed by one: content 127, 32 names, 128 items, 8 boxes.
+#![tactic(auto)]
+
 use frame::{HostNumber, WrittenFrame};
 use libc::STDOUT_FILENO;
 use loader::Answer;
@@ -7,7 +9,7 @@ use rules::Verdict;
 const ROOM: usize = 4096;
 
 // A script as it is being written: the bytes, and how many there are.
-#[derive(Drop)]
+#[derive(Clone, Copy)]
 struct Draft {
     bytes: [u8; 4096],
     size: usize,

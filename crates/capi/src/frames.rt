@@ -8,7 +8,7 @@ use super::GOOD;
 use frame::{HostNumber, InstrumentNumber, ReadFrame, Refusal, WrittenFrame};
 
 #[repr(C)]
-#[derive(Drop)]
+#[derive(Clone, Copy)]
 pub struct SatvFrame {
     pub result: u16,
     pub next: u8,

@@ -1,4 +1,6 @@
 // What the bench computer's C program calls, with numbers and bytes: include/satvrengi.h is its header.
+#![tactic(auto)]
+
 pub mod frames;
 pub mod replies;
 pub mod scripts;

@@ -16,7 +16,7 @@ const NUMBERS: usize = 4096;
 const NO_SUCH_ROW: u16 = 56;
 
 #[repr(C)]
-#[derive(Drop)]
+#[derive(Clone, Copy)]
 pub struct SatvReply {
     pub result: u16,
     pub code: u32,
@@ -26,7 +26,7 @@ pub struct SatvReply {
 }
 
 #[repr(C)]
-#[derive(Drop)]
+#[derive(Clone, Copy)]
 pub struct SatvRow {
     pub result: u16,
     pub kind: u8,

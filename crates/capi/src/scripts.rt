@@ -4,7 +4,7 @@ ghost use Rattle.vetting.specs.Vet.{vetted};
 ghost use Rattle.capi.specs.Scripts.{verdict_numbers};
 
 #[repr(C)]
-#[derive(Drop)]
+#[derive(Clone, Copy)]
 pub struct SatvVerdict {
     pub result: u16,
     pub line: usize,

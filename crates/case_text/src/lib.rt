@@ -1,4 +1,6 @@
 // The text of test cases and of their answers: lines of `key=value`.
+#![tactic(auto)]
+
 ghost use Rattle.std.specs.Prelude.{◌≤◌};
 
 pub mod put;

@@ -1,5 +1,7 @@
 // Steps one after the other. A step from a state in shape leaves one in shape, so that table and state are judged once;
 // each step is that of the crate `machine`.
+#![tactic(auto)]
+
 ghost use Rattle.std.specs.Prelude.{length, take};
 ghost use Rattle.course.specs.Course.{steps_of, ExactRun};
 
@@ -15,27 +17,27 @@ const LAST_ITEM: usize = 127;
 const MOST_STEPS: usize = 64;
 
 // What one step takes.
-#[derive(Drop)]
+#[derive(Clone, Copy)]
 pub struct Told {
     pub control: Control,
     pub offer: Offer,
 }
 
-#[derive(Drop)]
+#[derive(Clone, Copy)]
 pub struct Steps {
     pub at: [Told; 64],
     pub count: usize,
 }
 
 // A step's answer, and how many things it handed out.
-#[derive(Drop)]
+#[derive(Clone, Copy)]
 pub struct Said {
     pub answer: Answer,
     pub things: usize,
 }
 
 // The state after the last step, each step's answer, and all the things handed out, in order.
-#[derive(Drop)]
+#[derive(Clone, Copy)]
 pub struct Ran {
     pub state: State,
     pub answers: [Said; 64],

@@ -1,4 +1,6 @@
 // The CRC-16 of a slice, a byte at a time, by a table of what eight bits add.
+#![tactic(auto)]
+
 ghost use Rattle.std.specs.Prelude.{◌≡◌};
 ghost use Rattle.crc.specs.Crc.{step, crc};
 ghost use Rattle.crc.specs.Code.{entries};

@@ -1,5 +1,7 @@
 // What one step makes of a run: an effect, from what was looked up of the text and of the names. No table and no row of
 // names comes here. Every function is total.
+#![tactic(auto)]
+
 use operands::{Cells, Written};
 use state::{Answer, Fault, Status, What};
 use table::Item;
@@ -20,7 +22,7 @@ pub use tries::{chosen_by, tries_on, try_first, try_mate};
 const BOXES: usize = 8;
 
 // Where a run stands: all of it but its names and its status.
-#[derive(Drop)]
+#[derive(Clone, Copy)]
 pub struct Spot {
     pub at: usize,
     pub boxes: [usize; 8],
@@ -32,7 +34,7 @@ pub struct Spot {
 
 // What a step makes of a run: where it stands, its status; what it answers; what it hands out, at most two things, or
 // the marks of all open boxes as they are left; and the names that it writes, at most two.
-#[derive(Drop)]
+#[derive(Clone, Copy)]
 pub struct Effect {
     pub spot: Spot,
     pub status: Status,
@@ -45,14 +47,14 @@ pub struct Effect {
 }
 
 // Where an if leads: into a branch, past endif, or to a fault of the elseif tried.
-#[derive(Drop)]
+#[derive(Clone, Copy)]
 pub enum Chosen {
     Into(usize),
     Beyond(usize),
     Bad(Fault),
 }
 
-#[derive(Drop)]
+#[derive(Clone, Copy)]
 pub enum Tried {
     Go(Chosen),
     Next,
@@ -61,7 +63,7 @@ pub enum Tried {
 // What the text's marks say of the open boxes, and of the box that the item is about: whether a measuring loop is open;
 // whether the item's mark is astray; past that box's closing mark; whether it is a measuring loop; how many boxes stay
 // open outside it.
-#[derive(Drop)]
+#[derive(Clone, Copy)]
 pub struct Around {
     pub sweeping: bool,
     pub stray: bool,
@@ -70,7 +72,7 @@ pub struct Around {
     pub outside: usize,
 }
 
-#[derive(Drop)]
+#[derive(Clone, Copy)]
 pub struct Looked {
     pub item: Item,
     pub cells: Cells,
@@ -80,14 +82,14 @@ pub struct Looked {
     pub around: Around,
 }
 
-#[derive(Drop)]
+#[derive(Clone, Copy)]
 pub enum Trouble {
     None,
     Fault(Fault),
 }
 
 // What a step reads: nothing, one cell of any kind, two of one kind, one float, or four.
-#[derive(Drop)]
+#[derive(Clone, Copy)]
 pub enum Need {
     Nothing,
     Any,

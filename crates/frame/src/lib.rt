@@ -1,4 +1,6 @@
 // Framed lines: content, two hexadecimal digits of line number, four of CRC, newline.
+#![tactic(auto)]
+
 ghost use Rattle.std.specs.Prelude.{◌≡◌, ◌+◌, ◌≤◌, length, take};
 ghost use Rattle.text.specs.Put.{put};
 ghost use Rattle.frame.specs.Answer.{number_of, meaning_read, meaning_written};
@@ -24,14 +26,14 @@ const FIRST: u8 = 0;
 // The number of a line that the host sends. It counts by itself: no number that was received becomes one. Its field is
 // private, so outside this crate a number is a first one, one that the writer handed back, or one made of a byte by
 // name.
-#[derive(Drop)]
+#[derive(Clone, Copy)]
 pub struct HostNumber(u8);
 
 // The number of a line that the instrument sends; outside this crate likewise.
-#[derive(Drop)]
+#[derive(Clone, Copy)]
 pub struct InstrumentNumber(u8);
 
-#[derive(Drop)]
+#[derive(Clone, Copy)]
 pub enum Refusal {
     BadContent,
     ShortLine,
@@ -40,13 +42,13 @@ pub enum Refusal {
     ShortBuffer,
 }
 
-#[derive(Drop)]
+#[derive(Clone, Copy)]
 pub enum ReadFrame {
     Content(usize, InstrumentNumber),
     Refused(Refusal),
 }
 
-#[derive(Drop)]
+#[derive(Clone, Copy)]
 pub enum WrittenFrame {
     Written(usize, HostNumber),
     Refused(Refusal),

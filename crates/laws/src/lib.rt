@@ -1,1 +1,2 @@
 // Laws alone, for the proofs of the crates above: no function and no type.
+#![tactic(auto)]

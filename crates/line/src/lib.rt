@@ -1,4 +1,6 @@
 // One line of a script: its command, its arguments, and the item that they make, or what is wrong with it.
+#![tactic(auto)]
+
 ghost use Rattle.std.specs.Prelude.{◌≡◌, length};
 ghost use Rattle.word.specs.Word.{seek};
 ghost use Rattle.argument.specs.Argument.{said_at};
@@ -13,14 +15,14 @@ use table::{Act, Branch, Close, Condition, Head, Item, Pack, Sweep};
 use value::Operation;
 use word::Found;
 
-#[derive(Drop)]
+#[derive(Clone, Copy)]
 pub enum Judged {
     Item(Item),
     Refused(Refusal),
 }
 
 // What a command makes of its arguments.
-#[derive(Drop)]
+#[derive(Clone, Copy)]
 pub enum MakeAct {
     Var,
     Store,
@@ -38,27 +40,27 @@ pub enum MakeAct {
     Abort,
 }
 
-#[derive(Drop)]
+#[derive(Clone, Copy)]
 pub enum MakePack {
     Start,
     Add,
     End,
 }
 
-#[derive(Drop)]
+#[derive(Clone, Copy)]
 pub enum MakeHead {
     If,
     Loop,
     Sweep,
 }
 
-#[derive(Drop)]
+#[derive(Clone, Copy)]
 pub enum MakeBranch {
     ElseIf,
     Else,
 }
 
-#[derive(Drop)]
+#[derive(Clone, Copy)]
 pub enum Make {
     Act(MakeAct),
     Pack(MakePack),
@@ -73,7 +75,7 @@ pub enum Make {
 const MOST_ALIKE: usize = 5;
 
 // The arguments of a command, and what stands after them.
-#[derive(Drop)]
+#[derive(Clone, Copy)]
 pub struct Arguments {
     pub a: Argument,
     pub b: Argument,

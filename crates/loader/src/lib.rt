@@ -1,4 +1,6 @@
 // The loader: a script's text becomes a table of items, or is refused by a number and a line.
+#![tactic(auto)]
+
 ghost use Rattle.std.specs.Prelude.{◌≡◌};
 ghost use Rattle.argument.specs.Refusal.{number_of};
 ghost use Rattle.loader.specs.Code.{taken_of};
@@ -9,21 +11,21 @@ use argument::Refusal;
 use line::Judged;
 use table::{Act, Item, Slot, Table};
 
-#[derive(Drop)]
+#[derive(Clone, Copy)]
 pub enum Answer {
     Accepted,
     Refused(Refusal, usize),
 }
 
 // The answer and the table, which is the empty one where the text is refused.
-#[derive(Drop)]
+#[derive(Clone, Copy)]
 pub struct Loaded {
     pub answer: Answer,
     pub table: Table,
 }
 
 // What a line gives the table.
-#[derive(Drop)]
+#[derive(Clone, Copy)]
 pub enum Taken {
     Skipped,
     Item(Item),

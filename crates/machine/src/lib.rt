@@ -1,5 +1,7 @@
 // The machine's step: what it needs of table and names is looked up here, the crate `effect` says what the step makes
 // of it, and the names are written here.
+#![tactic(auto)]
+
 ghost use Rattle.std.specs.Prelude.{length};
 ghost use Rattle.machine.specs.Exact.{Exact};
 

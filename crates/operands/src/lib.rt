@@ -1,4 +1,6 @@
 // What an item reads of the row of names, and what is written into it. Every function is total.
+#![tactic(auto)]
+
 use state::Cell;
 use table::Operand;
 
@@ -12,7 +14,7 @@ pub use writes::{write_over, write_place};
 const NAMES: usize = 32;
 
 // The operands that an item reads, a literal past the last; where they stand in the row of names; and what they hold.
-#[derive(Drop)]
+#[derive(Clone, Copy)]
 pub struct Operands {
     pub a: Operand,
     pub b: Operand,
@@ -20,7 +22,7 @@ pub struct Operands {
     pub d: Operand,
 }
 
-#[derive(Drop)]
+#[derive(Clone, Copy)]
 pub struct Places {
     pub a: usize,
     pub b: usize,
@@ -28,7 +30,7 @@ pub struct Places {
     pub d: usize,
 }
 
-#[derive(Drop)]
+#[derive(Clone, Copy)]
 pub struct Cells {
     pub a: Cell,
     pub b: Cell,
@@ -37,7 +39,7 @@ pub struct Cells {
 }
 
 // A name that is written.
-#[derive(Drop)]
+#[derive(Clone, Copy)]
 pub enum Written {
     Nothing,
     Put(usize, Cell),

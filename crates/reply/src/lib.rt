@@ -1,4 +1,6 @@
 // A reply: the verdict on the whole, the rows that the caller lends, and a reader of lines.
+#![tactic(auto)]
+
 ghost use Rattle.std.specs.Prelude.{◌≡◌, get_or};
 ghost use Rattle.reply.specs.Reply.{verdict, meaning, outcome_of};
 ghost use Rattle.reply.specs.Rows.{script_row, ReadRows, table_meaning, read_table};
@@ -18,7 +20,7 @@ const MOST_BYTES: usize = 65536;
 const TABLE_ROWS: usize = 1024;
 
 // Row 0 is the script, the others are loops and scans.
-#[derive(Drop)]
+#[derive(Clone, Copy)]
 pub struct Row {
     pub kind: RowKind,
     pub mark: u32,
@@ -35,14 +37,14 @@ const SCRIPT_ROW: Row = Row {
 };
 
 // A refusal has its line, from 1; 0 where there is none.
-#[derive(Drop)]
+#[derive(Clone, Copy)]
 pub enum Answer {
     Read { code: u32, used: usize, rows: usize },
     Refused(Refusal, usize),
 }
 
 // The next line of a reply: where its bytes stand, and where the one after it starts.
-#[derive(Drop)]
+#[derive(Clone, Copy)]
 pub enum NextLine {
     Text {
         start: usize,
@@ -118,7 +120,7 @@ pub fn judge_reply(reply: &[u8], n: usize) -> Answer
 // ---- the second pass, over a reply that is known to be good: a turn a line
 
 // A line, and where the next one starts.
-#[derive(Drop)]
+#[derive(Clone, Copy)]
 pub struct Seen {
     pub line: Line,
     pub next: usize,
@@ -126,7 +128,7 @@ pub struct Seen {
 
 // Where the second pass stands: at a line, read already; where the last line ends; the row of the innermost that is
 // open, and how many rows there are.
-#[derive(Drop)]
+#[derive(Clone, Copy)]
 pub struct Stand {
     pub pos: usize,
     pub end: usize,
@@ -138,14 +140,14 @@ pub struct Stand {
 }
 
 // What a line makes of the row that it is about, and of the place among the rows.
-#[derive(Drop)]
+#[derive(Clone, Copy)]
 pub struct Change {
     pub row: Row,
     pub holder: usize,
     pub rows: usize,
 }
 
-#[derive(Drop)]
+#[derive(Clone, Copy)]
 pub struct Turn {
     pub row: Row,
     pub next: Stand,
@@ -327,7 +329,7 @@ pub fn read_reply(reply: &[u8], rows: &mut [Row]) -> Answer
 }
 
 // What a table of 1,024 rows holds after a reply is read into it.
-#[derive(Drop)]
+#[derive(Clone, Copy)]
 pub struct RowTable {
     pub rows: [Row; TABLE_ROWS],
     pub answer: Answer,
@@ -359,7 +361,7 @@ pub fn row_of(table: RowTable, at: usize) -> Row
 // ---- lines
 
 // A reader of lines: it stands over a lent reply, at the place where the next line starts.
-#[derive(Drop)]
+#[derive(Clone, Copy)]
 pub struct LineReader<'a> {
     pub reply: &'a [u8],
     pub at: usize,

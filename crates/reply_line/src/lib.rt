@@ -1,4 +1,6 @@
 // What one line of a reply is, by itself.
+#![tactic(auto)]
+
 ghost use Rattle.std.specs.Prelude.{◌≡◌, true};
 ghost use Rattle.reply_line.specs.Line.{number_of, letter_of, ends_error, error_code, is_e, first_line};
 ghost use Rattle.reply_line.specs.Line.{alone_in, mark_line, has_cycle, scan_line, package_line, later_error, line_at};
@@ -11,7 +13,7 @@ use text::Hex;
 const WITH_DIGITS: usize = 5;
 
 // The kinds of rows: the script, the kinds of loops, and a scan of a measuring loop.
-#[derive(Drop)]
+#[derive(Clone, Copy)]
 pub enum RowKind {
     Script,
     Sweep,
@@ -19,7 +21,7 @@ pub enum RowKind {
     Scan,
 }
 
-#[derive(Drop)]
+#[derive(Clone, Copy)]
 pub enum Refusal {
     BadPart,
     TooManyParts,
@@ -31,7 +33,7 @@ pub enum Refusal {
     TooLong,
 }
 
-#[derive(Drop)]
+#[derive(Clone, Copy)]
 pub enum Line {
     // Text, a single letter, or the first line's `e`.
     Quiet,

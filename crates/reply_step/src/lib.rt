@@ -1,4 +1,6 @@
 // What a line of a reply does: to what is open, to the count of rows, and to the reading.
+#![tactic(auto)]
+
 ghost use Rattle.std.specs.Prelude.{◌≡◌, get_or};
 ghost use Rattle.reply_step.specs.Step.{same_kind, innermost, may_open, closes};
 ghost use Rattle.reply_step.specs.Meaning.{not_open, kinds, bare, Steps};
@@ -10,13 +12,13 @@ use reply_line::{Line, Refusal, RowKind};
 const MOST_OPEN: usize = 8;
 
 // What an opening mark has opened, by its kind.
-#[derive(Drop)]
+#[derive(Clone, Copy)]
 pub struct Opened {
     pub kind: RowKind,
 }
 
 // What is open, innermost last, and how many rows there are.
-#[derive(Drop)]
+#[derive(Clone, Copy)]
 pub struct Open {
     pub around: [Opened; MOST_OPEN],
     pub depth: usize,
@@ -24,14 +26,14 @@ pub struct Open {
 }
 
 // Where a line leads.
-#[derive(Drop)]
+#[derive(Clone, Copy)]
 pub enum Move {
     On,
     Ends(u32),
     Refused(Refusal),
 }
 
-#[derive(Drop)]
+#[derive(Clone, Copy)]
 pub struct Step {
     pub to: Move,
     pub state: Open,

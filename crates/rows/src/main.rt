@@ -1,5 +1,7 @@
 // rows: reads a reply from standard input into 1,024 rows, and writes the listing. Where input or output fails, it says
 // so on standard error and stops.
+#![tactic(auto)]
+
 ghost use Rattle.std.specs.Prelude.{◌≡◌, length};
 
 use libc::{STDERR_FILENO, STDIN_FILENO, STDOUT_FILENO};

@@ -7,7 +7,7 @@ use super::written::{Around, Held};
 use super::{Finding, ITEMS, refusals, written};
 
 // Past an item: where, what was found there, whether the item closed the row's box, and what holds.
-#[derive(Drop)]
+#[derive(Clone, Copy)]
 pub struct Walk {
     pub at: usize,
     pub finding: Finding,
@@ -16,7 +16,7 @@ pub struct Walk {
 }
 
 // Out of a row: where, what was found there, and what holds.
-#[derive(Drop)]
+#[derive(Clone, Copy)]
 pub struct Out {
     pub at: usize,
     pub finding: Finding,

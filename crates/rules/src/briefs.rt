@@ -8,7 +8,7 @@ use super::kinds::Sorted;
 use table::{Branch, Close, Head, Item, Pack, Sort, Sweep};
 
 // pck_start, pck_add, pck_end
-#[derive(Drop)]
+#[derive(Clone, Copy)]
 pub enum Step {
     Start,
     Add,
@@ -17,7 +17,7 @@ pub enum Step {
 
 // An item that breaks 19 is nothing but wrong. A measuring loop that has the same name twice is a form of its own; a
 // branch mark says whether it is else.
-#[derive(Drop)]
+#[derive(Clone, Copy)]
 pub enum Form {
     Wrong,
     Act,
@@ -30,7 +30,7 @@ pub enum Form {
     Tag,
 }
 
-#[derive(Drop)]
+#[derive(Clone, Copy)]
 pub struct Brief {
     pub reads: u32,
     pub writes: u32,

@@ -10,7 +10,7 @@ use table::{Kind, Known, Operand, Read, Reads, Table, Write, Writes};
 use value::Value;
 
 // The whole ones among the names, and the floats.
-#[derive(Drop)]
+#[derive(Clone, Copy)]
 pub struct Sorted {
     pub whole: u32,
     pub real: u32,

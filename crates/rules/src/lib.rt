@@ -1,4 +1,6 @@
 // The checker's rules over a script table: 30, then 19 to 26.
+#![tactic(auto)]
+
 ghost use Rattle.std.specs.Prelude.{◌≡◌, length};
 ghost use Rattle.table.specs.Shape.{items_of};
 ghost use Rattle.rules.specs.Check.{begin, walk, line_of, verdict};
@@ -19,7 +21,7 @@ mod written;
 const ITEMS: usize = 128;
 
 // What a refusal says is broken: 19 to 26, and 30 for the table's shape.
-#[derive(Drop)]
+#[derive(Clone, Copy)]
 pub enum Refusal {
     Kinds,
     Unwritten,
@@ -32,14 +34,14 @@ pub enum Refusal {
     Shape,
 }
 
-#[derive(Drop)]
+#[derive(Clone, Copy)]
 pub enum Finding {
     Nothing,
     Broken(Refusal),
 }
 
 // The second number is the line.
-#[derive(Drop)]
+#[derive(Clone, Copy)]
 pub enum Verdict {
     Accepted,
     Refused(Refusal, usize),

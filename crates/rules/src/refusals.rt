@@ -15,7 +15,7 @@ use table::Close;
 const BOXES: usize = 8;
 
 // One field for each of 19 to 26.
-#[derive(Drop)]
+#[derive(Clone, Copy)]
 pub struct Tests {
     pub kinds: bool,
     pub unwritten: bool,

@@ -10,7 +10,7 @@ use table::Sort;
 
 // What is around a row of items: how many boxes are open; of the innermost its sort and what held before it; whether
 // any is a loop, and whether any is a measuring loop.
-#[derive(Drop)]
+#[derive(Clone, Copy)]
 pub struct Around {
     pub depth: usize,
     pub sort: Sort,
@@ -21,7 +21,7 @@ pub struct Around {
 
 // What holds where the checker stands in the row: the names surely written; what holds at the end of every branch so
 // far, and whether else was seen; whether a package is open, and whether the tag was seen.
-#[derive(Drop)]
+#[derive(Clone, Copy)]
 pub struct Held {
     pub sure: u32,
     pub every_end: u32,

@@ -29,7 +29,7 @@ const LEFT_OVER: usize = 77;
 // ---- read
 
 // The open boxes, the first eight of them, and how many there are, nine where there are more.
-#[derive(Drop)]
+#[derive(Clone, Copy)]
 struct Opened {
     boxes: [usize; 8],
     depth: usize,
@@ -68,7 +68,7 @@ fn var_at(s: &[u8], at: usize) -> Var {
     }
 }
 
-#[derive(Drop)]
+#[derive(Clone, Copy)]
 struct Vars {
     vars: [Var; 32],
 }

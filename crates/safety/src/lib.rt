@@ -1,5 +1,7 @@
 // Demand 3 for a caller: a script's text is loaded, checked and run from fresh, and the answers are never 30 and never
 // a fault.
+#![tactic(auto)]
+
 ghost use Rattle.std.specs.Prelude.{◌≡◌, length};
 ghost use Rattle.course.specs.Course.{steps_of, course_of};
 ghost use Rattle.safety.specs.Outcome.{none, refusal, checked_outcome, ExactOutcome, Fixed};
@@ -11,7 +13,7 @@ use state::{Answer, Thing, What};
 use table::Table;
 
 // By the checker; or refused by form or by a rule, at a line.
-#[derive(Drop)]
+#[derive(Clone, Copy)]
 pub enum Judged {
     Accepted,
     Form(Refusal, usize),
@@ -19,7 +21,7 @@ pub enum Judged {
 }
 
 // No step is taken where the text is refused.
-#[derive(Drop)]
+#[derive(Clone, Copy)]
 pub struct Checked {
     pub judged: Judged,
     pub ran: Ran,

@@ -1,4 +1,6 @@
 // A script's table and its items as the text of cases has them, read and put.
+#![tactic(auto)]
+
 use case_text::lesser;
 use case_text::put::{put, put_hex4, put_line, put_number, put_value};
 use case_text::read::{

@@ -1,4 +1,6 @@
 // Sets of names as the bits of a word: a name's number is its bit's.
+#![tactic(auto)]
+
 ghost use Rattle.std.specs.Prelude.{◌≡◌, true, [], ◌∷◌, set};
 ghost use Rattle.table.specs.ReadWrite.{has};
 ghost use Rattle.table.specs.Code.{all_reads, all_writes};

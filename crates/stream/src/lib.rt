@@ -1,16 +1,18 @@
 // A program's input, read to its end: a read that fails is told apart from the end of the input.
+#![tactic(auto)]
+
 ghost use Rattle.std.specs.Prelude.{◌≡◌};
 ghost use Rattle.stream.specs.Stream.{Within, heard};
 
 // How many bytes of the input stand at the start of the buffer, or that a read failed.
-#[derive(Drop)]
+#[derive(Clone, Copy)]
 pub enum Input {
     Bytes(usize),
     Failed,
 }
 
 // What follows from one read: so many bytes more, or the input is over.
-#[derive(Drop)]
+#[derive(Clone, Copy)]
 enum Heard {
     More(usize),
     Over(Input),

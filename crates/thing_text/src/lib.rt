@@ -1,4 +1,6 @@
 // What a step hands out, as text: 01's marks for the loops, and for each other thing a word with what it carries.
+#![tactic(auto)]
+
 ghost use Rattle.std.specs.Prelude.{◌≡◌, [], ◌∷◌, ◌++◌, ◌+◌, ◌%◌, ◌≤◌, ◌<◌, nat_abs, length};
 ghost use Rattle.std.specs.Float.{binary64};
 ghost use Rattle.std.specs.Float.Ieee.{to_bits};
@@ -20,14 +22,14 @@ const SIXTEEN_BITS: u64 = 65536;
 const WORD: u64 = 4294967296;
 
 // The bytes of a text so far, the first ones of these.
-#[derive(Drop)]
+#[derive(Clone, Copy)]
 struct Words {
     bytes: [u8; 64],
     count: usize,
 }
 
 // How many bytes were written; or the lent buffer is too short for them, 5.
-#[derive(Drop)]
+#[derive(Clone, Copy)]
 pub enum Put {
     Written(usize),
     Short,

@@ -1,4 +1,6 @@
 // What the benches time: bytes go in, and a number comes back that hangs on the work.
+#![tactic(auto)]
+
 use course::{Steps, Told};
 use frame::{InstrumentNumber, ReadFrame};
 use rules::Verdict;

@@ -1,4 +1,6 @@
 // Values: whole numbers and floats, literals, arithmetic and comparison.
+#![tactic(auto)]
+
 ghost use Rattle.std.specs.Prelude.{◌≡◌, ◌+◌, ◌%◌, ◌^◌, ◌<◌, ◌≤◌, length, drop, pos, ◌+ℤ◌, ◌-ℤ◌, ◌*ℤ◌, neg_ℤ, if◌then◌else◌, int_div, int_rem, nat_lt, to_bits, unsigned_abs};
 ghost use Rattle.std.specs.Float.{binary64};
 ghost use Rattle.std.specs.Int.Signed.{mag};
@@ -9,14 +11,14 @@ ghost use Rattle.prefix.specs.Prefix.{prefix_of};
 ghost use Rattle.value.specs.Literal.{lettered, suffixed, signed, finish, read_digits, literal};
 
 // Inside the machine a value is either a whole number or a float.
-#[derive(Drop)]
+#[derive(Clone, Copy)]
 pub enum Value {
     Whole(i32),
     Real(f64),
 }
 
 // add_var, sub_var, mul_var, div_var
-#[derive(Drop)]
+#[derive(Clone, Copy)]
 pub enum Operation {
     Add,
     Sub,
@@ -25,7 +27,7 @@ pub enum Operation {
 }
 
 // == != < <= > >=
-#[derive(Drop)]
+#[derive(Clone, Copy)]
 pub enum Comparison {
     Equal,
     Unequal,
@@ -36,7 +38,7 @@ pub enum Comparison {
 }
 
 // What an operation gives.
-#[derive(Drop)]
+#[derive(Clone, Copy)]
 pub enum Calculated {
     Value(Value),
     ByZero,
@@ -44,7 +46,7 @@ pub enum Calculated {
 }
 
 // What a word says as a literal, and the place in it where reading stopped.
-#[derive(Drop)]
+#[derive(Clone, Copy)]
 pub enum Literal {
     Value(Value, usize),
     Bad(usize),

@@ -1,5 +1,7 @@
 // vet: judges a script from standard input. It writes `result=0`, or `result=` and `line=` with the refusal's number
 // and line. Where input or output fails, it says so on standard error and stops.
+#![tactic(auto)]
+
 ghost use Rattle.std.specs.Prelude.{◌≡◌, length};
 
 use libc::{STDERR_FILENO, STDIN_FILENO, STDOUT_FILENO};

@@ -1,4 +1,6 @@
 // What the loader and the rules say of a script together: the verdict before the cell is switched on.
+#![tactic(auto)]
+
 ghost use Rattle.std.specs.Prelude.{◌≡◌};
 ghost use Rattle.rules.specs.Verdict.{meaning};
 ghost use Rattle.vetting.specs.Vet.{told, vetted};
@@ -7,7 +9,7 @@ use loader::Answer;
 use rules::Verdict;
 
 // 01's number and line, both 0 where the script is accepted.
-#[derive(Drop)]
+#[derive(Clone, Copy)]
 pub struct Told {
     pub number: u8,
     pub line: usize,

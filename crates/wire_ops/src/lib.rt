@@ -1,4 +1,6 @@
 // The ops on what goes over the wire: frames, packages and replies.
+#![tactic(auto)]
+
 pub mod frames;
 pub mod lines;
 pub mod packages;

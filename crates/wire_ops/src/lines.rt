@@ -16,7 +16,7 @@ const MORE: usize = 2;
 const MOST_ASKED: usize = 4098;
 
 // Where a new reader stands, what it serves from another place, and where it stands then.
-#[derive(Drop)]
+#[derive(Clone, Copy)]
 struct Served {
     start: usize,
     line: NextLine,

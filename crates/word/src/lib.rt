@@ -1,10 +1,12 @@
 // Words of a line: where the next one stands, names, types, small numbers, and words found in a table.
+#![tactic(auto)]
+
 ghost use Rattle.std.specs.Prelude.{◌≡◌, min, ◌+◌, ◌≤◌, length, drop};
 ghost use Rattle.word.specs.Code.{Pushed, Eight, filled_from, KeyOf, same_key, FoundBy};
 ghost use Rattle.word.specs.Word.{in_class, run, word_at, skipped, name_form, read_type, small_of};
 ghost use Rattle.word.specs.Word.{part, padded, seek};
 
-#[derive(Drop)]
+#[derive(Clone, Copy)]
 pub enum Class {
     Blank,
     Solid,
@@ -12,27 +14,27 @@ pub enum Class {
 }
 
 // A part of a line, from start up to end.
-#[derive(Drop)]
+#[derive(Clone, Copy)]
 pub struct Span {
     pub start: usize,
     pub end: usize,
 }
 
 // The place of a row in a table.
-#[derive(Drop)]
+#[derive(Clone, Copy)]
 pub enum Found {
     At(usize),
     Nothing,
 }
 
 // A type is its two letters, the first times 256 and the second.
-#[derive(Drop)]
+#[derive(Clone, Copy)]
 pub enum TypeName {
     Letters(u16),
     Bad,
 }
 
-#[derive(Drop)]
+#[derive(Clone, Copy)]
 pub enum Small {
     Number(u8),
     Bad,
@@ -173,7 +175,7 @@ pub fn pad(word: &[u8]) -> [u8; 16]
 // ---- words looked up: a row is compared as two numbers, which need not be laid down in memory
 
 // Sixteen bytes, eight to a number, the first the lowest.
-#[derive(Drop)]
+#[derive(Clone, Copy)]
 struct Key {
     low: u64,
     high: u64,
