@@ -3,5 +3,3 @@ pub mod Bools
 pub mod Stack
 pub mod Least
 pub mod Lists
-pub mod Walk
-pub mod Lend

@@ -1,0 +1,28 @@
+use mathlib.Core.Path.{refl}
+use mathlib.Core.List.{List, [], ◌∷◌}
+use Prim.Native.Nat.{ℕ}
+use types.Run.{miss}
+use Rattle.argument.specs.Holds.{text_of}
+use Rattle.argument.proofs.Apart.{Each, by_tag}
+use Rattle.argument.proofs.text_of.Goals as goal
+
+-- the tags that `_` stands for
+abbrev others : List ℕ
+others = 0 ∷ 1 ∷ 2 ∷ 3 ∷ 4 ∷ 5 ∷ 6 ∷ 8 ∷ []
+
+rest : Each text_of (record { start = 0; end = 0 }) others
+rest = (
+  λ k. refl,
+  λ y k. refl,
+  λ y k. refl,
+  λ y k. refl,
+  λ y k. refl,
+  λ y k. refl,
+  λ y k. refl,
+  λ y k. absurd (miss others 7 tt k),
+  λ y k. refl,
+
+)
+
+pub returns-in_default : goal.returns-in_default
+returns-in_default c = by_tag text_of (record { start = 0; end = 0 }) others rest c.args.x c.in_default.in_default-own.keys2

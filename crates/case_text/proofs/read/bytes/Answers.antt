@@ -1,0 +1,7 @@
+use borrow.Author.Rules.{rules}
+use Prim.Native.Nat.{◌-◌}
+use lib.ListN.{length, length-set}
+use Rattle.case_text.proofs.read.bytes.Goals as goal
+
+pub loop-n-preserved : goal.loop-n-preserved
+loop-n-preserved c = (simp length-set c.loop-n.invariant.0, search rules)

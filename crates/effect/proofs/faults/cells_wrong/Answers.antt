@@ -1,0 +1,14 @@
+use Rattle.effect.proofs.faults.cells_wrong.Goals as goal
+
+pub returns-in-Alike : goal.returns-in-Alike
+returns-in-Alike c = simp (c.kinds_differ.ensures, c.in-Alike.is)
+
+pub returns-in-Four : goal.returns-in-Four
+returns-in-Four c =
+    simp (
+      c.is_whole-in-Four-4.ensures,
+      c.is_whole-in-Four-3.ensures,
+      c.is_whole-in-Four-2.ensures,
+      c.is_whole-in-Four.ensures,
+      c.in-Four.is,
+    )

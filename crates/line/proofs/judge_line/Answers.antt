@@ -1,0 +1,61 @@
+-- `line::judge_line` finds the command, then what its arguments say. Assumes nothing.
+use mathlib.Core.List.{List}
+use mathlib.Core.Path.{◌≡◌, sym, ◌∙◌, ap}
+use Prim.Native.Nat.{ℕ}
+use Rattle.argument.specs.Refusal.{number_of}
+use Rattle.line.proofs.Judge.{Asked, unknown, faulty, good}
+use Rattle.line.specs.Command.{command_words}
+use Rattle.line.specs.Line.{meaning}
+use Rattle.word.specs.Word.{part, seek}
+use Rattle.line.proofs.judge_line.Goals as goal
+use Rattle.line.proofs.judge_line.Goals.{After-find_command, After-say_all-x, After-word_at-w}
+
+-- with the line's first word
+module _ (c : After-word_at-w) where
+  abbrev names : List (List ℕ)
+  names = c.args.names.now
+
+  abbrev script : List ℕ
+  script = c.args.script.now
+
+  abbrev from : ℕ
+  from = c.args.at
+
+-- with what was found of the command
+module _ (c : After-find_command) where
+  sought : seek command_words (part (script begun) c.word_at-w.result) ≡ c.find_command.result
+  sought = sym (c.find_command.ensures ∙ ap (seek command_words) c.part_of.ensures)
+
+-- with what the arguments of a command say
+module _ (c : After-say_all-x) where
+  abbrev row : ℕ
+  row = c.in-At.k
+
+  abbrev first : After-word_at-w
+  first = begun looked
+
+  asked : Asked (names first) (script first) (from first) c.word_at-w.result row c.say_all-x.result
+  asked =
+      record {
+        word = c.word_at-w.ensures;
+        row = sought looked ∙ c.in-At.is;
+        says = rw c.shape_at-shape.ensures at c.say_all-x.ensures;
+      }
+
+pub returns-in-Nothing : goal.returns-in-Nothing
+unfolding meaning number_of
+returns-in-Nothing c =
+    unknown _ _ _ _ c.word_at-w.ensures (sought (goal.at.returns-in-Nothing c).After-find_command ∙ c.in-Nothing.is)
+
+pub returns-in-Wrong : goal.returns-in-Wrong
+unfolding meaning
+returns-in-Wrong c =
+    faulty (asked (goal.at.returns-in-Wrong c).After-say_all-x) c.worst_of.result _ c.worst_of.ensures
+    c.in-Wrong.is
+
+pub returns-in_default : goal.returns-in_default
+unfolding meaning
+returns-in_default c =
+    let makes = c.make_at-make.ensures in
+    good (asked (goal.at.returns-in_default c).After-say_all-x) c.worst_of.result _ c.worst_of.ensures c.in_default.in_default-own.keys2
+    (rw makes at c.item_of.ensures)

@@ -1,0 +1,37 @@
+-- `machine::step`: one step. The table is surveyed and the state judged, the item and the mates of an if are looked up,
+-- the effect is made, its names are written and its things laid.
+use Prim.Native.Nat.{◌-◌}
+use lib.ListN.{length}
+use Rattle.state.specs.Meaning.{cells_of}
+use Rattle.steps.specs.Code.{state_with}
+use Rattle.lookup.proofs.Laying.{Leaves}
+use Rattle.lookup.proofs.Looking.{stage, Trying}
+use Rattle.lookup.proofs.Passing.{Passed}
+use Rattle.machine.proofs.Turn.{From}
+use Rattle.machine.proofs.step.Given as goal
+
+-- the table's items
+abbrev pub invariant-loop-m : goal.invariant-loop-m
+invariant-loop-m l =
+    Passed (length l.text) l.table l.count l.roles l.sound l.m
+
+abbrev pub decreases-loop-m : goal.decreases-loop-m
+decreases-loop-m l = l.count - l.m
+
+-- the mates that a false condition tries
+abbrev pub invariant-loop-found : goal.invariant-loop-found
+invariant-loop-found l =
+    From (Trying (stage (length l.text) l.table l.marks.at l.count l.tag l.shaped l.vars l.spot l.status) l.control l.offer l.item l.cells
+    l.found l.j)
+    (state_with (cells_of l.vars) l.spot l.status) l.state
+
+abbrev pub decreases-loop-found : goal.decreases-loop-found
+decreases-loop-found l = l.count - l.j
+
+-- the marks of the boxes that are left
+abbrev pub invariant-loop-k : goal.invariant-loop-k
+invariant-loop-k l =
+    Leaves 8 l.marks.at l.spot.boxes l.initial.things l.initial.handed l.initial.k l.from l.things l.handed l.k
+
+abbrev pub decreases-loop-k : goal.decreases-loop-k
+decreases-loop-k l = l.k

@@ -1,0 +1,10 @@
+use Rattle.rules.proofs.written.after_box.Goals as goal
+
+pub returns-in-If : goal.returns-in-If
+returns-in-If c = simp (c.after_if.ensures, c.in-If.is)
+
+pub returns-in-Loop : goal.returns-in-Loop
+returns-in-Loop c = simp c.in-Loop.is
+
+pub returns-in-Sweep : goal.returns-in-Sweep
+returns-in-Sweep c = simp c.in-Sweep.is

@@ -1,0 +1,25 @@
+-- `value::compare`: two whole numbers, two floats, or one of each. Assumes nothing.
+use Rattle.std.proofs.Common.{◌∙◌}
+use Rattle.value.proofs.Wrap.{two_wholes}
+use Rattle.value.specs.Arithmetic.{compares}
+use Rattle.value.proofs.compare.Goals as goal
+
+pub returns-in-Whole-b : goal.returns-in-Whole-b
+unfolding compares
+returns-in-Whole-b c =
+    c.compare_wholes.ensures
+    ∙ two_wholes (compares _) c.in-Whole.is c.in-Whole-b.is
+    c.in-Whole.known_told-1-own.given.0.1 c.in-Whole-b.known_told-in-Whole-1-own.given.0.1
+
+pub returns-in-Real-b : goal.returns-in-Real-b
+unfolding compares
+returns-in-Real-b c = simp (c.in-Real-b.is, c.in-Whole.is)
+
+pub returns-in-Whole-b-2 : goal.returns-in-Whole-b-2
+unfolding compares
+returns-in-Whole-b-2 c = simp (c.in-Whole-b-2.is, c.in-Real.is)
+
+pub returns-in-Real-b-2 : goal.returns-in-Real-b-2
+unfolding compares
+returns-in-Real-b-2 c =
+    simp (c.compare_reals.ensures, c.in-Real-b-2.is, c.in-Real.is)

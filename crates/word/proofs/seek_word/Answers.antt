@@ -1,0 +1,14 @@
+use mathlib.Core.Path.{sym}
+use borrow.Author.Tests.{lt-leb, le-leb}
+use Rattle.word.specs.Word.{seek}
+use Rattle.word.proofs.seek_word.Goals as goal
+
+pub returns-then-word-le-WIDTH : goal.returns-then-word-le-WIDTH
+unfolding seek
+returns-then-word-le-WIDTH c =
+    let found = c.find.ensures.first _ c.word_key-key.ensures in
+    simp (le-leb _ _ c.if-word-le-WIDTH.true, sym found)
+
+pub returns : goal.returns
+unfolding seek
+returns c = simp (lt-leb _ _ c.if-word-le-WIDTH.false)
