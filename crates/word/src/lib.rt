@@ -123,6 +123,7 @@ pub fn is_name(word: &[u8]) -> bool
 }
 
 // A type's two small letters, the first times 256 and the second.
+#[tactic(auto, unfolding(crate::specs::Word::read_type))]
 pub fn read_type(word: &[u8]) -> TypeName
     ensures { result ≡ read_type word.now }
 {
