@@ -1,4 +1,3 @@
-mod Apart
 pub mod Signs
 pub mod Past
 pub mod Refusals

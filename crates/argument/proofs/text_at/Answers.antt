@@ -32,20 +32,28 @@ pub returns-then-n-open : goal.returns-then-n-open
 unfolding text_at
 returns-then-n-open c =
     let line = c.args.line.now in
-    (simp (sym c.run_from-open.ensures, get_or-eq_default line 0 c.if-n-open.true), omega arith)
+    record {
+      value = simp (sym c.run_from-open.ensures, get_or-eq_default line 0 c.if-n-open.true);
+      inside = omega arith;
+    }
 
 pub returns-then-line-open-ne34 : goal.returns-then-line-open-ne34
 unfolding text_at
-returns-then-line-open-ne34 c = (simp (sym c.run_from-open.ensures, ne_eqb _ _ c.if-line-open-ne34.true), omega arith)
+returns-then-line-open-ne34 c = record {
+  value = simp (sym c.run_from-open.ensures, ne_eqb _ _ c.if-line-open-ne34.true);
+  inside = omega arith;
+}
 
 pub returns-then-n-end : goal.returns-then-n-end
 unfolding text_at
 returns-then-n-end c =
     let ends = sym c.next_byte-end.ensures.is in
-    (simp (blanks (goal.at.returns-then-n-end c).Else-line-open-ne34, quote (goal.at.returns-then-n-end c).Else-line-open-ne34, ends, le-ltb _ _ c.if-n-end.true), omega arith)
+    let at = (goal.at.returns-then-n-end c).Else-line-open-ne34 in
+    record { value = simp (blanks at, quote at, ends, le-ltb _ _ c.if-n-end.true); inside = omega arith }
 
 pub returns : goal.returns
 unfolding text_at
 returns c =
     let ends = sym c.next_byte-end.ensures.is in
-    (simp (blanks (goal.at.returns c).Else-line-open-ne34, quote (goal.at.returns c).Else-line-open-ne34, ends, lt-ltb _ _ c.if-n-end.false), omega arith)
+    let at = (goal.at.returns c).Else-line-open-ne34 in
+    record { value = simp (blanks at, quote at, ends, lt-ltb _ _ c.if-n-end.false); inside = omega arith }
