@@ -136,6 +136,7 @@ fn with_sign(v: u64, neg: bool) -> i32
 }
 
 // After k digits that make v.
+#[tactic(auto, unfolding(crate::specs::Literal::finish))]
 fn finished(s: &[u8], i: usize, k: usize, v: u64, neg: bool) -> Literal
     requires { i ≤ length s.now }
     ensures { result ≡ finish neg k v i (drop i s.now) }
@@ -382,6 +383,7 @@ pub fn is_finite(v: Value) -> bool
 
 // A result, or why there is none: a division by zero, or a result that is not finite. Of two kinds there is none
 // either, and no run gets there: fault 61 is tested before.
+#[tactic(auto, unfolding(crate::specs::Arithmetic::calculated))]
 pub fn calculate(by: Operation, a: Value, b: Value) -> Calculated
     ensures { result ≡ calculated by a b }
 {
@@ -398,6 +400,7 @@ pub fn calculate(by: Operation, a: Value, b: Value) -> Calculated
 }
 
 // Whether two values compare so; values of two kinds never do.
+#[tactic(auto, unfolding(crate::specs::Arithmetic::compares))]
 pub fn compare(by: Comparison, a: Value, b: Value) -> bool
     ensures { result ≡ compares by a b }
 {

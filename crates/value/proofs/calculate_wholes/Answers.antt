@@ -41,19 +41,19 @@ quotient-requires c =
 pub returns-in-Add : goal.returns-in-Add
 unfolding wholes
 returns-in-Add c =
-    gave (goal.at.returns-in-Add c).Start ◌+ℤ◌ _ c.wrapping_add.type-inv c.wrapping_add.ensures ∙ by (goal.at.returns-in-Add c).Start _ c.in-Add.is
+    gave (goal.at.returns-in-Add c).Start ◌+ℤ◌ _ c.wrapping_add.type_inv c.wrapping_add.ensures ∙ by (goal.at.returns-in-Add c).Start _ c.in-Add.is
 
 pub returns-in-Sub : goal.returns-in-Sub
 unfolding wholes
 returns-in-Sub c =
-    gave (goal.at.returns-in-Sub c).Start ◌-ℤ◌ _ c.wrapping_sub.type-inv c.wrapping_sub.ensures ∙ by (goal.at.returns-in-Sub c).Start _ c.in-Sub.is
+    gave (goal.at.returns-in-Sub c).Start ◌-ℤ◌ _ c.wrapping_sub.type_inv c.wrapping_sub.ensures ∙ by (goal.at.returns-in-Sub c).Start _ c.in-Sub.is
 
 pub returns-in-Mul : goal.returns-in-Mul
 unfolding wholes
 returns-in-Mul c =
-    gave (goal.at.returns-in-Mul c).Start ◌*ℤ◌ _ c.wrapping_mul.type-inv c.wrapping_mul.ensures ∙ by (goal.at.returns-in-Mul c).Start _ c.in-Mul.is
+    gave (goal.at.returns-in-Mul c).Start ◌*ℤ◌ _ c.wrapping_mul.type_inv c.wrapping_mul.ensures ∙ by (goal.at.returns-in-Mul c).Start _ c.in-Mul.is
 
 pub returns-else-b-eq0 : goal.returns-else-b-eq0
 returns-else-b-eq0 c =
-    gave (goal.at.returns-else-b-eq0 c).Start quot_z _ c.quotient.type-inv c.quotient.ensures ∙ divided (c.args.a) (c.args.b) c.if-b-eq0.false
+    gave (goal.at.returns-else-b-eq0 c).Start quot_z _ c.quotient.type_inv c.quotient.ensures ∙ divided (c.args.a) (c.args.b) c.if-b-eq0.false
     ∙ by (goal.at.returns-else-b-eq0 c).Start _ c.in-Div.is

@@ -1,17 +1,12 @@
 -- `value::wrapping_add`: the words' sum wraps. Assumes nothing.
-use Rattle.std.proofs.Common.{◌≡◌, ◌+ℤ◌, ap, ◌∙◌}
+use Rattle.std.proofs.Common.{ap, ◌∙◌}
 use Rattle.value.proofs.Wrap.{back32, words_sum}
-use Rattle.value.specs.Arithmetic.{rest, signed_word, wrap}
+use Rattle.value.specs.Arithmetic.{signed_word, wrap}
 use Rattle.value.proofs.wrapping_add.Goals as goal
-use Rattle.value.proofs.wrapping_add.Goals.{After-wrapping_add_u32}
-
--- with the words' sum
-module _ (c : After-wrapping_add_u32) where
-  wrapped : c.wrapping_add_u32.result ≡ rest (c.args.a +ℤ c.args.b) 4294967296
-  wrapped =
-      words_sum c.fits.a c.fits.b c.word_of-x.ensures
-      c.word_of-y.ensures c.wrapping_add_u32.ensures
 
 pub returns : goal.returns
 unfolding wrap
-returns c = back32 _ c.number_of.type-inv ∙ c.number_of.ensures ∙ ap signed_word (wrapped (goal.at.returns c).After-wrapping_add_u32)
+returns c =
+    back32 _ c.number_of.type_inv ∙ c.number_of.ensures
+    ∙ ap signed_word
+    (words_sum c.ranges.a c.ranges.b c.word_of-x.ensures c.word_of-y.ensures c.wrapping_add_u32.ensures.value)
