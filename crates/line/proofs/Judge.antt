@@ -1,12 +1,10 @@
 -- Laws of the judgement of a line. Assumes nothing.
 use mathlib.Core.Path.{◌≡◌, refl, sym, ◌∙◌, ap}
-use mathlib.Core.List.{List, [], ◌∷◌}
+use mathlib.Core.List.{List}
 use mathlib.Core.Option.{Option, none, some}
 use Prim.Native.Nat.{ℕ, ◌≤◌, ◌<◌}
 use native.Mathlib.Omega.{arith}
 use borrow.Author.Tests.{lt-ltb, le-ltb}
-use types.Run.{OneOf, miss}
-use denote.Enum.Declared.{tag_of}
 use Rattle.table.specs.declared.Item.{Item}
 use Rattle.word.specs.declared.Span.{Span}
 use Rattle.word.specs.declared.Found.TheVariants as Found
@@ -18,7 +16,6 @@ use Rattle.argument.specs.declared.Argument.{Argument}
 use Rattle.argument.specs.declared.Argument.TheVariants as Argument
 use Rattle.argument.specs.Holds.{wrong_of}
 use Rattle.argument.specs.Code.{numbered}
-use Rattle.argument.specs.contracts.Argument.{the_type}
 use Rattle.line.specs.Command.{Arguments, item_of, command_words, command_at}
 use Rattle.line.specs.Line.{item, refused, arguments_at, lower, lowest, verdict, judged}
 
@@ -101,11 +98,7 @@ faulty {x = x} q y r e f =
     let z : lowest x ≡ some (number_of r) = sym e ∙ ap wrong_of f in
     sym (known q ∙ rw z refl)
 
--- the tags of arguments that are not wrong
-abbrev pub right : List ℕ
-right = 0 ∷ 1 ∷ 2 ∷ 3 ∷ 4 ∷ 5 ∷ 6 ∷ 7 ∷ []
-
-not_wrong : (y : Argument) → OneOf right (tag_of the_type y) → wrong_of y ≡ none
+not_wrong : (y : Argument) → ((r : Refusal) → y ≡ Argument.Wrong r → ⊥) → wrong_of y ≡ none
 not_wrong Argument.Nothing k = refl
 not_wrong (Argument.Name y) k = refl
 not_wrong (Argument.Operand y) k = refl
@@ -114,12 +107,12 @@ not_wrong (Argument.Letters y) k = refl
 not_wrong (Argument.Number y) k = refl
 not_wrong (Argument.Comparison y) k = refl
 not_wrong (Argument.Text y) k = refl
-not_wrong (Argument.Wrong y) k = absurd (miss right 8 tt k)
+not_wrong (Argument.Wrong y) k = absurd (k y refl)
 
 -- none is
 pub good : {names : List (List ℕ)} {line : List ℕ} {i k : ℕ} {w : Span} {x : Arguments}
-    → Asked names line i w k x → (y : Argument) (it : Item) → wrong_of y ≡ lowest x → OneOf right (tag_of the_type y)
-    → it ≡ item_of (command_at k).make x → item it ≡ judged names line i
+    → Asked names line i w k x → (y : Argument) (it : Item) → wrong_of y ≡ lowest x
+    → ((r : Refusal) → y ≡ Argument.Wrong r → ⊥) → it ≡ item_of (command_at k).make x → item it ≡ judged names line i
 good {x = x} q y it e t g =
     let z : lowest x ≡ none = sym e ∙ not_wrong y t in
     ap item g ∙ sym (known q ∙ rw z refl)

@@ -88,6 +88,7 @@ pub struct Arguments {
 
 // ---- commands: by the number of its row in 01, what a command makes, the letters of its arguments, and its word
 
+#[tactic(auto, unfolding(crate::specs::Command::command_at, crate::specs::Command::commands))]
 fn make_at(k: usize) -> Make
     ensures { result ≡ (command_at k).make }
 {
@@ -126,6 +127,7 @@ fn make_at(k: usize) -> Make
 
 // As 01 writes them: v a name, x a name or literal (also where 01 writes f), t a type, n a number; w a new name, l a
 // literal, o a comparison, s a text. A match and no table, which would be laid down anew for each line.
+#[tactic(auto, unfolding(crate::specs::Command::command_at, crate::specs::Command::commands, word::specs::Word::padded))]
 fn shape_at(k: usize) -> [u8; 6]
     ensures { result ≡ (command_at k).shape }
 {
@@ -253,6 +255,7 @@ fn find_command(word: &[u8]) -> Found
     }
 }
 
+#[tactic(auto, unfolding(crate::specs::Command::form_of))]
 fn form_of(letter: u8) -> Form
     ensures { result ≡ form_of letter }
 {
@@ -463,6 +466,7 @@ fn worse_of(a: Argument, b: Argument) -> Argument
 }
 
 // The argument with the lowest number of what is wrong.
+#[tactic(auto, unfolding(crate::specs::Line::lowest))]
 fn worst_of(x: Arguments) -> Argument
     ensures { wrong_of result ≡ lowest x }
 {

@@ -8,37 +8,20 @@ use Rattle.line.specs.Command.{command_words}
 use Rattle.line.specs.Line.{meaning}
 use Rattle.word.specs.Word.{part, seek}
 use Rattle.line.proofs.judge_line.Goals as goal
-use Rattle.line.proofs.judge_line.Goals.{After-find_command, After-say_all-x, After-word_at-w}
-
--- with the line's first word
-module _ (c : After-word_at-w) where
-  abbrev names : List (List ℕ)
-  names = c.args.names.now
-
-  abbrev script : List ℕ
-  script = c.args.script.now
-
-  abbrev from : ℕ
-  from = c.args.at
+use Rattle.line.proofs.judge_line.Goals.{After-find_command, After-say_all-x}
 
 -- with what was found of the command
 module _ (c : After-find_command) where
-  sought : seek command_words (part (script begun) c.word_at-w.result) ≡ c.find_command.result
+  sought : seek command_words (part c.args.script.now c.word_at-w.result) ≡ c.find_command.result
   sought = sym (c.find_command.ensures ∙ ap (seek command_words) c.part_of.ensures)
 
 -- with what the arguments of a command say
 module _ (c : After-say_all-x) where
-  abbrev row : ℕ
-  row = c.in-At.k
-
-  abbrev first : After-word_at-w
-  first = begun looked
-
-  asked : Asked (names first) (script first) (from first) c.word_at-w.result row c.say_all-x.result
+  asked : Asked c.args.names.now c.args.script.now c.args.at c.word_at-w.result c.in-At.k c.say_all-x.result
   asked =
       record {
         word = c.word_at-w.ensures;
-        row = sought looked ∙ c.in-At.is;
+        row = sym (c.find_command.ensures ∙ ap (seek command_words) c.part_of.ensures) ∙ c.in-At.is;
         says = rw c.shape_at-shape.ensures at c.say_all-x.ensures;
       }
 
@@ -56,6 +39,5 @@ returns-in-Wrong c =
 pub returns-in_default : goal.returns-in_default
 unfolding meaning
 returns-in_default c =
-    let makes = c.make_at-make.ensures in
-    good (asked (goal.at.returns-in_default c).After-say_all-x) c.worst_of.result _ c.worst_of.ensures c.in_default.in_default-own.keys2
-    (rw makes at c.item_of.ensures)
+    good (asked (goal.at.returns-in_default c).After-say_all-x) c.worst_of.result _ c.worst_of.ensures
+    c.in_default.not-Wrong (rw c.make_at-make.ensures at c.item_of.ensures)

@@ -37,8 +37,8 @@ pub returns : goal.returns
 returns c =
     all (first (goal.at.returns c).After-is_all_over)
     (record {
-      c = rw c.form_of.ensures at c.say_at-d.ensures.says;
-      c = rw c.form_of-2.ensures at c.say_at-e.ensures.says;
-      c = rw c.form_of-3.ensures at c.say_at-f.ensures.says;
+      four = rw c.form_of.ensures at c.say_at-d.ensures.says;
+      five = rw c.form_of-2.ensures at c.say_at-e.ensures.says;
+      six = rw c.form_of-3.ensures at c.say_at-f.ensures.says;
       last = c.say_at-g.ensures.says;
     })
