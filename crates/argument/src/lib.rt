@@ -68,6 +68,7 @@ const MOST_NAMES: usize = 32;
 const NO_NUMBER: u8 = 19;
 
 // 01's number of a refusal, 10 to 18.
+#[tactic(auto, unfolding(crate::specs::Refusal::number_of))]
 pub fn number(refusal: Refusal) -> u8
     ensures { result ≡ number_of refusal }
 {
@@ -169,6 +170,7 @@ pub fn wrong_of(x: Argument) -> u8
 // ---- what a word says
 
 // No word: a missing word is an empty one.
+#[tactic(auto, unfolding(crate::specs::Argument::empty_said))]
 fn empty_said(word: &[u8]) -> Argument
     ensures { result ≡ empty_said word.now }
 {
@@ -179,6 +181,7 @@ fn empty_said(word: &[u8]) -> Argument
 }
 
 // A name that was declared.
+#[tactic(auto, unfolding(crate::specs::Argument::name_said))]
 fn name_said(word: &[u8], names: &[[u8; 16]]) -> Argument
     ensures { result ≡ name_said names.now word.now }
 {
@@ -192,6 +195,7 @@ fn name_said(word: &[u8], names: &[[u8; 16]]) -> Argument
 }
 
 // A name that is new.
+#[tactic(auto, unfolding(crate::specs::Argument::new_said))]
 fn new_said(word: &[u8], names: &[[u8; 16]]) -> Argument
     ensures { result ≡ new_said names.now word.now }
 {
@@ -210,6 +214,7 @@ fn new_said(word: &[u8], names: &[[u8; 16]]) -> Argument
     }
 }
 
+#[tactic(auto, unfolding(crate::specs::Argument::literal_said))]
 fn literal_said(word: &[u8]) -> Argument
     ensures { result ≡ literal_said word.now }
 {
@@ -220,6 +225,7 @@ fn literal_said(word: &[u8]) -> Argument
 }
 
 // A name or a literal.
+#[tactic(auto, unfolding(crate::specs::Argument::operand_said))]
 fn operand_said(word: &[u8], names: &[[u8; 16]]) -> Argument
     ensures { result ≡ operand_said names.now word.now }
 {
@@ -235,6 +241,7 @@ fn operand_said(word: &[u8], names: &[[u8; 16]]) -> Argument
     }
 }
 
+#[tactic(auto, unfolding(crate::specs::Argument::type_said))]
 fn type_said(word: &[u8]) -> Argument
     ensures { result ≡ type_said word.now }
 {
@@ -244,6 +251,7 @@ fn type_said(word: &[u8]) -> Argument
     }
 }
 
+#[tactic(auto, unfolding(crate::specs::Argument::number_said))]
 fn number_said(word: &[u8]) -> Argument
     ensures { result ≡ number_said word.now }
 {
@@ -263,6 +271,7 @@ const SIGNS: [[u8; 16]; 6] = [
 ];
 
 // The comparison that the sign of a row stands for.
+#[tactic(auto, unfolding(crate::specs::Argument::comparison_at))]
 fn comparison_at(i: usize) -> Comparison
     ensures { result ≡ comparison_at i }
 {
@@ -276,6 +285,7 @@ fn comparison_at(i: usize) -> Comparison
     }
 }
 
+#[tactic(auto, unfolding(crate::specs::Argument::comparison_said, crate::specs::Argument::signs, word::specs::Word::padded))]
 fn comparison_said(word: &[u8]) -> Argument
     ensures { result ≡ comparison_said word.now }
 {
@@ -286,6 +296,7 @@ fn comparison_said(word: &[u8]) -> Argument
 }
 
 // What a word says where a form is asked.
+#[tactic(auto, unfolding(crate::specs::Argument::said))]
 fn say(form: Form, word: &[u8], names: &[[u8; 16]]) -> Argument
     ensures { result ≡ said form names.now word.now }
 {
@@ -312,6 +323,7 @@ fn is_text(form: Form) -> bool
 }
 
 // The text of send_string from a place of its line.
+#[tactic(auto, unfolding(crate::specs::Argument::text_at))]
 fn text_at(line: &[u8], at: usize) -> Said
     ensures value { result ≡ text_at line.now at }
     ensures inside { result.stop ≤ length line.now }
