@@ -1,34 +1,26 @@
 -- `reply_line::error_code`: `e!`, a right ending, and four digits that are not 0000. Assumes nothing.
 use borrow.Author.Tests.{eq-eqb, le-leb, lt-leb, ne_eqb, not-false, not-true}
-use mathlib.Core.List.{List}
 use mathlib.Core.Path.{◌≡◌, sym, ◌∙◌, ap}
-use Prim.Native.Nat.{ℕ}
 use Rattle.reply_line.proofs.Lines.{other_code, zero_code}
 use Rattle.reply_line.specs.Line.{error_code, non_zero}
 use Rattle.text.specs.declared.Hex.{Hex}
 use Rattle.text.specs.Hex.{read_hex}
 use mathlib.Core.Bool.{not}
 use Rattle.reply_line.proofs.error_code.Goals as goal
-use Rattle.reply_line.proofs.error_code.Goals.{After-hex_at, Else-not-ends_error, Else-s-ne33, Then-s-ge6}
-
--- where there are six bytes
-module _ (c : Then-s-ge6) where
-  abbrev s : List ℕ
-  s = c.args.s.now
+use Rattle.reply_line.proofs.error_code.Goals.{After-hex_at}
 
 -- where the ending is right too: the digits decide
-module _ (c : Else-not-ends_error) where
-  by_digits : non_zero (read_hex 4 (s marked) 2) ≡ error_code (s marked)
+module _ (c : After-hex_at) where
+  by_digits : non_zero (read_hex 4 c.args.s.now 2) ≡ error_code c.args.s.now
   unfolding error_code
   by_digits =
       let ends = sym c.ends_error.ensures ∙ not-false _ (ap not c.if-not-ends_error.false) in
-      let e = eq-eqb _ _ marked.if2.left in
-      simp (ends, eq-eqb _ _ c.if-s-ne33.false, e, le-leb _ _ marked.if1.taken)
+      let e = eq-eqb _ _ c.if-s-ne101.false in
+      simp (ends, eq-eqb _ _ c.if-s-ne33.false, e, le-leb _ _ c.if-s-ge6.true)
 
--- with what the digits are
-module _ (c : After-hex_at) where
+  -- with what the digits are
   read : (h : Hex) → c.hex_at.result ≡ h → non_zero h ≡ error_code (c.args.s.now)
-  read h is = ap non_zero (sym is ∙ c.hex_at.ensures) ∙ by_digits c.before
+  read h is = ap non_zero (sym is ∙ c.hex_at.ensures) ∙ by_digits
 
 pub returns-then-s-ne101 : goal.returns-then-s-ne101
 unfolding error_code

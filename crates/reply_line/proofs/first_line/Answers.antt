@@ -1,33 +1,24 @@
 -- `reply_line::first_line`: `e`, or an error line; each wants a row. Assumes nothing.
 use borrow.Author.Tests.{le-ltb, lt-ltb}
-use mathlib.Core.List.{List}
 use mathlib.Core.Path.{◌≡◌, sym, ◌∙◌, ap}
-use Prim.Native.Nat.{ℕ}
 use Rattle.reply_line.specs.declared.Line.TheVariants as Line
 use Rattle.reply_line.specs.Line.{first_error, first_line, with_row}
 use Rattle.text.specs.declared.Hex.{Hex}
 use Rattle.reply_line.proofs.first_line.Goals as goal
-use Rattle.reply_line.proofs.first_line.Goals.{After-error_code, After-is_e, Then-is_e}
-
-module _ (c : After-is_e) where
-  abbrev s : List ℕ
-  s = c.args.s.now
-
-  abbrev n : ℕ
-  n = c.args.n
+use Rattle.reply_line.proofs.first_line.Goals.{After-error_code, Then-is_e}
 
 -- where it is `e`
 module _ (c : Then-is_e) where
-  by_row : with_row (c.args.n) Line.Quiet ≡ first_line (c.args.n) (c.args.s.now)
+  by_row : with_row c.args.n Line.Quiet ≡ first_line c.args.n c.args.s.now
   unfolding first_line
   by_row = simp (sym c.is_e.ensures ∙ c.if-is_e.true)
 
 -- where it is not, with the code of an error
 module _ (c : After-error_code) where
-  by_code : (h : Hex) → c.error_code.result ≡ h → first_error (n test) h ≡ first_line (n test) (s test)
+  by_code : (h : Hex) → c.error_code.result ≡ h → first_error c.args.n h ≡ first_line c.args.n c.args.s.now
   unfolding first_line
   by_code h is =
-      ap (first_error (n test)) (sym is ∙ c.error_code.ensures)
+      ap (first_error c.args.n) (sym is ∙ c.error_code.ensures)
       ∙ simp (sym c.is_e.ensures ∙ c.if-is_e.false)
 
 pub returns-then-n-gt0 : goal.returns-then-n-gt0

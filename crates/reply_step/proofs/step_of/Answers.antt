@@ -1,4 +1,5 @@
-use lib.ListN.{length, length-map}
+-- `reply_step::step_of`, by the kind of line. Assumes nothing.
+use lib.ListN.{length}
 use mathlib.Core.Path.{◌≡◌}
 use Rattle.reply_step.proofs.Loops.{does}
 use Rattle.reply_step.specs.Code.{step_in}
@@ -8,7 +9,7 @@ use Rattle.reply_step.proofs.step_of.Goals.{Start}
 -- at the start: the array has eight places
 module _ (c : Start) where
   eight : length c.args.st.around ≡ 8
-  eight = simp length-map at c.well-formed.1.0.1.1.0.1.0.1
+  eight = c.well_formed.1.0.1.1.0.1.0.1
 
 pub returns-in-Quiet : goal.returns-in-Quiet
 unfolding step_in
