@@ -1,10 +1,9 @@
 -- `frame::read_frame` tests 2, 1, 3, 4 in this order. Assumes nothing.
 use Rattle.std.proofs.Common.{◌≡◌, ℕ, ◌-◌, Bool, true, false, cond, not, List, length, sym, ap, ◌∙◌, le-ltb, lt-ltb}
-use borrow.Author.Tests.{not-false, not-true}
 use Rattle.frame.specs.Answer.{meaning_read, number_of}
 use Rattle.frame.specs.Frame.{accepted, next, read, read_content, refused, right_crc, right_number}
 use Rattle.frame.proofs.read_frame.Goals as goal
-use Rattle.frame.proofs.read_frame.Goals.{Else-k-gt-MOST_CONTENT, Else-not-right_crc}
+use Rattle.frame.proofs.read_frame.Goals.{Else-k-gt-MOST_CONTENT}
 
 -- where the line is long enough, and its content not too long: the CRC and the number decide
 module _ (c : Else-k-gt-MOST_CONTENT) where
@@ -24,13 +23,11 @@ module _ (c : Else-k-gt-MOST_CONTENT) where
   unfolding read read_content
   by_crc right e = simp (le-ltb _ _ c.if-line-lt-DIGITS.false, le-ltb _ _ c.if-k-gt-MOST_CONTENT.false, e)
 
--- where the CRC is right: the number decides
-module _ (c : Else-not-right_crc) where
-  by_number : (right : Bool) → right_number (line fit) (k fit) (expected fit) ≡ right
-      → cond (not right) (refused 4 0) (accepted (k fit) (next (expected fit))) ≡ read (line fit) (expected fit)
-  by_number right e =
-      ap (λ (b : Bool). cond (not b) (refused 4 0) (accepted (k fit) (next (expected fit)))) (sym e)
-      ∙ by_crc fit true (sym c.right_crc.ensures ∙ not-false _ (ap not c.if-not-right_crc.false))
+  -- where the CRC is right: the number decides
+  by_number : right_crc line k ≡ true → (right : Bool) → right_number line k expected ≡ right
+      → cond (not right) (refused 4 0) (accepted k (next expected)) ≡ read line expected
+  by_number r right e =
+      ap (λ (b : Bool). cond (not b) (refused 4 0) (accepted k (next expected))) (sym e) ∙ by_crc true r
 
 pub returns-then-line-lt-DIGITS : goal.returns-then-line-lt-DIGITS
 unfolding read meaning_read number_of
@@ -42,15 +39,20 @@ returns-then-k-gt-MOST_CONTENT c = simp (le-ltb _ _ c.if-line-lt-DIGITS.false, l
 
 pub returns-then-not-right_crc : goal.returns-then-not-right_crc
 unfolding meaning_read number_of
-returns-then-not-right_crc c = by_crc (goal.at.returns-then-not-right_crc c).Else-k-gt-MOST_CONTENT false (sym c.right_crc.ensures ∙ not-true _ (ap not c.if-not-right_crc.true))
+returns-then-not-right_crc c =
+    by_crc (goal.at.returns-then-not-right_crc c).Else-k-gt-MOST_CONTENT false
+    (sym c.right_crc.ensures ∙ c.if-not-right_crc.true)
 
 pub returns-then-not-right_number : goal.returns-then-not-right_number
 unfolding meaning_read number_of
 returns-then-not-right_number c =
-    by_number (goal.at.returns-then-not-right_number c).Else-not-right_crc false (sym c.right_number.ensures ∙ not-true _ (ap not c.if-not-right_number.true))
+    by_number (goal.at.returns-then-not-right_number c).Else-k-gt-MOST_CONTENT
+    (sym c.right_crc.ensures ∙ c.if-not-right_crc.false) false
+    (sym c.right_number.ensures ∙ c.if-not-right_number.true)
 
 pub returns : goal.returns
 unfolding meaning_read
 returns c =
     simp c.next.ensures
-    (by_number (goal.at.returns c).Else-not-right_crc true (sym c.right_number.ensures ∙ not-false _ (ap not c.if-not-right_number.false)))
+    (by_number (goal.at.returns c).Else-k-gt-MOST_CONTENT (sym c.right_crc.ensures ∙ c.if-not-right_crc.false) true
+    (sym c.right_number.ensures ∙ c.if-not-right_number.false))

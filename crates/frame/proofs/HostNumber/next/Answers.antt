@@ -4,4 +4,4 @@ use Rattle.frame.proofs.HostNumber.next.Goals as goal
 
 pub returns : goal.returns
 unfolding next
-returns c = c.wrapping_add_u8.ensures
+returns c = c.wrapping_add_u8.ensures.value
