@@ -11,32 +11,14 @@ use Rattle.package.specs.declared.ReadPart.TheVariants as ReadPart
 use Rattle.package.specs.declared.ReadPart.{ReadPart}
 use Rattle.package.specs.Package.{meaning, number_of, package_of, verdict_of}
 use Rattle.package.proofs.judge_package.Goals as goal
-use Rattle.package.proofs.judge_package.Goals.{After-read_part, At-loop-k, Else-s-ne80, In-Good}
-
--- behind the P
-module _ (c : Else-s-ne80) where
-  abbrev text : List ℕ
-  text = c.args.s.now
-
--- at the loop's head
-module _ (c : At-loop-k) where
-  abbrev s : List ℕ
-  s = c.args.s.now
+use Rattle.package.proofs.judge_package.Goals.{After-read_part}
 
 -- with a part that was read as x
 module _ (c : After-read_part) where
-  abbrev Read : ReadPart → Type 0
-  Read x = Round (s head) c.loop-k.k c.loop-k.at c.next_byte-e.result x
-
-  read_as : (x : ReadPart) → c.read_part.result ≡ x → Read x
+  read_as : (x : ReadPart) → c.read_part.result ≡ x
+      → Round c.args.s.now c.loop-k.k c.loop-k.at c.next_byte-e.result x
   read_as _ =
-      part_read c.loop-k-test.true c.loop-k.invariant.within c.next_byte-e.ensures
-      c.read_part.ensures
-
--- with a good part
-module _ (c : In-Good) where
-  good : Read read (ReadPart.Good c.in-Good.field-0)
-  good = read_as read _ c.in-Good.is
+      part_read c.loop-k-test.true c.loop-k.invariant.within c.next_byte-e.ensures c.read_part.ensures
 
 pub returns-then-s-lt1 : goal.returns-then-s-lt1
 unfolding meaning number_of verdict_of package_of
@@ -66,15 +48,15 @@ returns-in-Bad c =
 pub returns-then-e-s : goal.returns-then-e-s
 unfolding meaning number_of verdict_of
 returns-then-e-s c =
-    sym (ap verdict_of (last_part (good (goal.at.returns-then-e-s c).In-Good) c.if-e-s.true)) ∙ (head c).loop.inv.same
+    sym (ap verdict_of (last_part (read_as (goal.at.returns-then-e-s c).After-read_part _ c.in-Good.is) c.if-e-s.true)) ∙ c.loop-k.invariant.same
 
 pub loop-k-preserved : goal.loop-k-preserved
 loop-k-preserved c =
-    let next = more_parts (good (goal.at.loop-k-preserved c).In-Good) c.if-e-s.false in
+    let next = more_parts (read_as (goal.at.loop-k-preserved c).After-read_part _ c.in-Good.is) c.if-e-s.false in
     record {
       few = search rules;
-      within = omega (arith, ends_within (good (goal.at.loop-k-preserved c).In-Good), c.if-e-s.false);
-      same = sym (ap verdict_of next ∙ same_verdict _ _) ∙ (head c).loop.inv.same;
+      within = omega (arith, ends_within (read_as (goal.at.loop-k-preserved c).After-read_part _ c.in-Good.is), c.if-e-s.false);
+      same = sym (ap verdict_of next ∙ same_verdict _ _) ∙ c.loop-k.invariant.same;
     }
 
 pub returns : goal.returns

@@ -14,36 +14,20 @@ use Rattle.package.specs.declared.ReadPart.{ReadPart}
 use Rattle.package.specs.Package.{meaning, number_of, package_meaning}
 use Rattle.package.specs.Package.{Reading, content_from, content_of, package_of, parts_from, placed}
 use Rattle.package.proofs.read_package.Goals as goal
-use Rattle.package.proofs.read_package.Goals.{After-read_part, At-loop-k, Else-s-ne80, In-Good}
-
--- behind the P
-module _ (c : Else-s-ne80) where
-  abbrev text : List ℕ
-  text = c.args.s.now
+use Rattle.package.proofs.read_package.Goals.{After-read_part, At-loop-k}
 
 -- at the loop's head: what comes of the parts from here on is the whole's
 module _ (c : At-loop-k) where
-  abbrev s : List ℕ
-  s = c.args.s.now
-
-  so_far : (r : Reading) → parts_from c.loop-k.k (from s c.loop-k.at) ≡ r
-      → content_from c.loop-k.k c.loop-k.parts r ≡ content_of (package_of s)
+  so_far : (r : Reading) → parts_from c.loop-k.k (from c.args.s.now c.loop-k.at) ≡ r
+      → content_from c.loop-k.k c.loop-k.parts r ≡ content_of (package_of c.args.s.now)
   so_far r e = sym (ap (content_from c.loop-k.k c.loop-k.parts) e) ∙ c.loop-k.invariant.same
 
 -- with a part that was read as x
 module _ (c : After-read_part) where
-  abbrev Read : ReadPart → Type 0
-  Read x = Round (s head) c.loop-k.k c.loop-k.at c.next_byte-e.result x
-
-  read_as : (x : ReadPart) → c.read_part.result ≡ x → Read x
+  read_as : (x : ReadPart) → c.read_part.result ≡ x
+      → Round c.args.s.now c.loop-k.k c.loop-k.at c.next_byte-e.result x
   read_as _ =
-      part_read c.loop-k-test.true c.loop-k.invariant.within c.next_byte-e.ensures
-      c.read_part.ensures
-
--- with a good part p
-module _ (c : In-Good) where
-  good : Read read (ReadPart.Good c.in-Good.p)
-  good = read_as read _ c.in-Good.is
+      part_read c.loop-k-test.true c.loop-k.invariant.within c.next_byte-e.ensures c.read_part.ensures
 
 pub returns-then-s-lt1 : goal.returns-then-s-lt1
 unfolding package_of number_of
@@ -74,14 +58,14 @@ returns-in-Bad c =
 pub returns-then-e-s : goal.returns-then-e-s
 unfolding package_meaning meaning content_from placed
 returns-then-e-s c =
-    so_far (head c) _ (last_part (good (goal.at.returns-then-e-s c).In-Good) c.if-e-s.true)
+    so_far (goal.at.returns-then-e-s c).At-loop-k _ (last_part (read_as (goal.at.returns-then-e-s c).After-read_part _ c.in-Good.is) c.if-e-s.true)
 
 pub loop-k-preserved : goal.loop-k-preserved
 loop-k-preserved c =
     record {
       few = search rules;
-      within = omega (arith, ends_within (good (goal.at.loop-k-preserved c).In-Good), c.if-e-s.false);
-      same = sym (takes_place _ _ _ _) ∙ so_far (head c) _ (more_parts (good (goal.at.loop-k-preserved c).In-Good) c.if-e-s.false);
+      within = omega (arith, ends_within (read_as (goal.at.loop-k-preserved c).After-read_part _ c.in-Good.is), c.if-e-s.false);
+      same = sym (takes_place _ _ _ _) ∙ so_far (goal.at.loop-k-preserved c).At-loop-k _ (more_parts (read_as (goal.at.loop-k-preserved c).After-read_part _ c.in-Good.is) c.if-e-s.false);
     }
 
 pub returns : goal.returns
