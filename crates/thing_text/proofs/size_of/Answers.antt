@@ -18,7 +18,7 @@ module _ (c : After-word_of-word) where
   n = c.args.n
 
   back : to_z w32 (of_z w32 n) ≡ n
-  back = to_z-of_z c.fits.n
+  back = to_z-of_z c.ranges.n
 
   word : c.word_of-word.result ≡ rest n 4294967296
   word = c.word_of-word.ensures ∙ ap (λ (z : ℤ). rest z 4294967296) back
@@ -27,10 +27,10 @@ module _ (c : After-word_of-word) where
   sign b t = ap (λ (z : ℤ). lt_z z (pos 0)) (sym back) ∙ t
 
   below : lt_z (to_z w32 (of_z w32 n)) (pos 0) ≡ true → 4294967296 - c.word_of-word.result ≡ nat_abs n
-  below t = ap (λ (m : ℕ). 4294967296 - m) word ∙ size_below n c.fits.n (sign true t)
+  below t = ap (λ (m : ℕ). 4294967296 - m) word ∙ size_below n c.ranges.n (sign true t)
 
   above : lt_z (to_z w32 (of_z w32 n)) (pos 0) ≡ false → c.word_of-word.result ≡ nat_abs n
-  above t = word ∙ size_above n c.fits.n (sign false t)
+  above t = word ∙ size_above n c.ranges.n (sign false t)
 
 pub returns-then-n-lt0 : goal.returns-then-n-lt0
 returns-then-n-lt0 c = below (goal.at.returns-then-n-lt0 c).After-word_of-word c.if-n-lt0.true
