@@ -218,20 +218,6 @@ module _ {s : List ℕ} {p : Table} {rows : List (List ℕ)} {at nr stop : ℕ} 
       ap (λ (x : Step). x.table.names) (step_as r) in
       omega (arith, most.most, counts, counted_as p.names it true d)
 
-  pub room_left : p.count < 128
-  room_left =
-      tests (ltb 127 (length (line s at stop))) (skipped (line s at stop)) (ltb p.count 128) refl r.takes
-    where
-      tests : (a b c : Bool) → ltb p.count 128 ≡ c
-          → given (item it)
-          ≡ cond a (given (refused 12))
-          (cond b nothing (cond c (given (judged (names r) (take stop s) at)) (given (refused 13))))
-          → p.count < 128
-      tests true b c w v = apart cc
-      tests false true c w v = apart cc
-      tests false false true w v = ltb-true _ _ w
-      tests false false false w v = apart cc
-
   -- the walk goes on behind it, with the names that there are then
   goes_on_with : (b : Bool) → declares it ≡ b
       → left r (with_item p it nr (cond b (p.names + 1) p.names))

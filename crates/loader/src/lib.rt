@@ -93,6 +93,7 @@ fn item_declares(item: Item) -> bool
 }
 
 // One line that is not the ending one, which stands from `at` up to the end of `upto`.
+#[tactic(auto, unfolding(argument::specs::Refusal::number_of, line::specs::Line::meaning))]
 fn take_line(count: usize, line: &[u8], upto: &[u8], at: usize, names: &[[u8; 16]]) -> Taken
     ensures { taken_of result ≡ taken_by count names.now line.now upto.now at }
 {
@@ -113,6 +114,7 @@ fn take_line(count: usize, line: &[u8], upto: &[u8], at: usize, names: &[[u8; 16
 }
 
 // The second word of a line as a row of the table of names.
+#[tactic(auto, unfolding(crate::specs::Load::name_row))]
 fn name_row(line: &[u8]) -> [u8; 16]
     ensures { result ≡ name_row line.now }
 {
