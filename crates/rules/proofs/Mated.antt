@@ -165,7 +165,9 @@ module _ (k : Kinds) where
       → is_open (item_at xs j) ≡ true
       → is_found (close_from (j + i) (j + i) (scan_all i (opens_of s.boxes) (take j xs)) (drop j xs)) ≡ true
   closing_at j i s [] e h m = absurd (not-suc-le-zero h)
-  closing_at zero i s (x ∷ xs) e h m = rw (zero-add i) (opened i s x xs e m)
+  closing_at zero i s (x ∷ xs) e h m =
+      subst (λ (n : ℕ). is_found (close_from n n (opens_of s.boxes) (x ∷ xs)) ≡ true) (sym (zero-add i))
+      (opened i s x xs e m)
   closing_at (suc j) i s (x ∷ xs) e h m =
       let z : suc j + i ≡ j + suc i = omega arith in
       rw z (subst (λ (st : List Open). is_found

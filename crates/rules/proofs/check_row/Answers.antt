@@ -1,14 +1,12 @@
-use Prim.Native.Nat.{◌-◌}
-use mathlib.Core.Path.{refl}
+-- Item by item its brief is noted; then the notes tell the items. Assumes nothing.
+use mathlib.Core.Path.{◌≡◌, refl}
 use native.Mathlib.Nat.{not-suc-le-zero}
 use native.Mathlib.Omega.{arith}
-use lib.ListN.{length-map}
-use Rattle.table.specs.Shape.{items_of}
-use Rattle.rules.specs.Code.{kinds_in, Notes, notes, Told}
+use lib.ListN.{length}
+use Rattle.rules.specs.Code.{notes}
 use Rattle.rules.proofs.Noting.{note_next, all_noted}
 use Rattle.rules.proofs.Way.{came}
 use Rattle.rules.proofs.check_row.Goals as goal
-use Rattle.rules.proofs.check_row.Goals.{After-brief_of-brief, After-start}
 
 pub loop-i-init : goal.loop-i-init
 loop-i-init c = record {
@@ -17,7 +15,6 @@ loop-i-init c = record {
   writes = refl;
   forms = refl;
   each = λ j h. absurd (not-suc-le-zero h);
-
 }
 
 pub offset_bounds-table-i : goal.offset_bounds-table-i
@@ -53,27 +50,19 @@ loop-i-smaller c = omega (arith, c.loop-i-test.true)
 pub loop-i-preserved : goal.loop-i-preserved
 loop-i-preserved c =
     let at = c.loop-i in
-    note_next at.reads at.writes at.forms _ c.requires at.inv c.loop-i-test.true
+    note_next at.reads at.writes at.forms _ c.requires at.invariant c.loop-i-test.true
     c.brief_of-brief.ensures
-
--- all briefs are made
-module _ (c : After-start) where
-  abbrev seen : Notes
-  seen =
-      notes c.loop-i.reads c.loop-i.writes c.loop-i.forms
-      c.args.table.count
-
-  told : Told (kinds_in c.args.kinds) (items_of c.args.table) seen
-  told =
-      all_noted seen.reads seen.writes seen.forms c.loop-i.invariant c.loop-i-test.false
-      (omega (arith, simp length-map at c.good.0.1.1.0.1.0.1, c.requires.items))
 
 pub check_block-requires : goal.check_block-requires
 check_block-requires c =
     let inv = c.loop-i.invariant in
     (c.requires.items, omega arith, inv.reads, inv.writes)
 
+-- all briefs are made
 pub returns : goal.returns
 returns c =
-    came (seen (goal.at.returns c).After-start) c.outside.result c.start.result c.check_block.result (told (goal.at.returns c).After-start)
+    let whole : length c.args.table.items ≡ 128 = c.well_formed.0.1.1.0.1.0.1 in
+    let l = c.loop-i in
+    came (notes l.reads l.writes l.forms c.args.table.count) c.outside.result c.start.result c.check_block.result
+    (all_noted l.reads l.writes l.forms l.invariant c.loop-i-test.false (omega (arith, c.requires.items)))
     c.outside.ensures c.start.ensures c.check_block.ensures
