@@ -9,6 +9,5 @@ pub mod Over
 pub mod Listed
 pub mod Listing
 pub mod Coming
-pub mod Tabled
 pub mod Tight
 pub mod Examples

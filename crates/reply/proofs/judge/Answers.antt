@@ -15,44 +15,17 @@ use Rattle.reply.specs.declared.NextLine.TheVariants as NextLine
 use Rattle.reply.specs.Lines.{next_line}
 use Rattle.reply.specs.Reply.{verdict}
 use Rattle.reply.proofs.judge.Goals as goal
-use Rattle.reply.proofs.judge.Goals.{After-step_of-step, At-loop-at, In-Text}
+use Rattle.reply.proofs.judge.Goals.{After-step_of-step}
 
--- at the loop's head
-module _ (c : At-loop-at) where
-  abbrev reply : List ℕ
-  reply = c.args.reply.now
-
-  abbrev rows : ℕ
-  rows = c.args.n
-
-  abbrev loops : Open
-  loops = meant c.loop-at.st
-
--- with a line in hand: it stands from `start` up to `end`
-module _ (c : In-Text) where
-  abbrev start : ℕ
-  start = c.in-Text.start
-
-  abbrev end : ℕ
-  end = c.in-Text.end
-
-  abbrev next : ℕ
-  next = c.in-Text.next
-
-  line : NextLine.Text start end next ≡ next_line (reply head) c.loop-at.at
-  line = sym c.in-Text.is ∙ c.next_line.ensures
-
-  stood : Stands (reply head) c.loop-at.at start end next
-  stood = stands _ _ _ _ _ line
-
--- with what the line does
+-- with what the line in hand does: it stands from its start up to its end
 module _ (c : After-step_of-step) where
-  abbrev entry : At-loop-at
-  entry = head found
-
-  round : Round (reply entry) (rows entry) c.loop-at.k c.loop-at.at
-      (start found) (end found) (next found) (loops entry) (stepped c.step_of-step.result)
-  round = record { line = line found; does = rw c.line_at-line.ensures at c.step_of-step.ensures.means }
+  round : Round c.args.reply.now c.args.n c.loop-at.k c.loop-at.at c.in-Text.start c.in-Text.end c.in-Text.next
+      (meant c.loop-at.st) (stepped c.step_of-step.result)
+  round =
+      record {
+        line = sym c.in-Text.is ∙ c.next_line.ensures;
+        does = rw c.line_at-line.ensures at c.step_of-step.ensures.means;
+      }
 
 pub returns-then-reply-gt-MOST_BYTES : goal.returns-then-reply-gt-MOST_BYTES
 unfolding verdict
@@ -74,13 +47,19 @@ returns-in_default c =
     sym (no_line _ _ _ _ _ c.loop-at.invariant.within none) ∙ c.loop-at.invariant.same
 
 pub slice_bounds-line_at-count : goal.slice_bounds-line_at-count
-slice_bounds-line_at-count c = omega (arith, (stood c).start, (stood c).end)
+slice_bounds-line_at-count c =
+    let p = stands _ _ _ _ _ (sym c.in-Text.is ∙ c.next_line.ensures) in
+    omega (arith, p.start, p.end)
 
 pub slice_bounds-line_at-start : goal.slice_bounds-line_at-start
-slice_bounds-line_at-start c = omega (arith, (stood c).start, (stood c).end)
+slice_bounds-line_at-start c =
+    let p = stands _ _ _ _ _ (sym c.in-Text.is ∙ c.next_line.ensures) in
+    omega (arith, p.start, p.end)
 
 pub slice_bounds-line_at-end : goal.slice_bounds-line_at-end
-slice_bounds-line_at-end c = omega (arith, (stood c).more)
+slice_bounds-line_at-end c =
+    let p = stands _ _ _ _ _ (sym c.in-Text.is ∙ c.next_line.ensures) in
+    omega (arith, p.more)
 
 pub returns-in-Ends : goal.returns-in-Ends
 returns-in-Ends c =
@@ -88,7 +67,8 @@ returns-in-Ends c =
 
 pub returns-in-Refused : goal.returns-in-Refused
 returns-in-Refused c =
-    sym (refused_here (round (goal.at.returns-in-Refused c).After-step_of-step) c.in-Refused.is) ∙ c.loop-at.invariant.same
+    sym (refused_here (round (goal.at.returns-in-Refused c).After-step_of-step) c.in-Refused.is)
+    ∙ c.loop-at.invariant.same
 
 pub overflow_add-k : goal.overflow_add-k
 overflow_add-k c = omega (arith, c.loop-at.invariant)
@@ -99,11 +79,12 @@ loop-at-smaller c = omega (arith, place (round (goal.at.loop-at-smaller c).After
 pub loop-at-preserved : goal.loop-at-preserved
 loop-at-preserved c =
     let i = c.loop-at.invariant in
+    let r = round (goal.at.loop-at-preserved c).After-step_of-step in
     record {
-      within = omega (arith, place (round (goal.at.loop-at-preserved c).After-step_of-step));
+      within = omega (arith, place r);
       short = i.short;
-      numbered = omega (arith, place (round (goal.at.loop-at-preserved c).After-step_of-step), i.numbered);
-      same = sym (goes_on (round (goal.at.loop-at-preserved c).After-step_of-step) c.in-On.is) ∙ i.same;
+      numbered = omega (arith, place r, i.numbered);
+      same = sym (goes_on r c.in-On.is) ∙ i.same;
     }
 
 pub returns : goal.returns

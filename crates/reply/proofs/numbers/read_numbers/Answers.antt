@@ -2,42 +2,29 @@
 -- nothing.
 use lib.ListN.{length}
 use mathlib.Core.List.{List}
-use mathlib.Core.Path.{refl, ◌∙◌, ap}
+use mathlib.Core.Path.{◌≡◌, refl, ◌∙◌, ap}
 use native.Mathlib.Omega.{arith}
 use Prim.Native.Nat.{ℕ, ◌+◌, ◌*◌, ◌-◌, ◌<◌, ◌≤◌}
 use Rattle.reply.proofs.Coming.{come_first, Taken, take_on, take_less, come_end, come_says}
 use Rattle.reply.proofs.Listed.{four_fit, same_size, numbers_are}
 use Rattle.reply.proofs.Turns.{place_below}
+use Rattle.reply.proofs.Whole.{Starts}
+use Rattle.reply.specs.declared.Stand.{Stand}
 use Rattle.reply.specs.Code.{place_in, fours}
 use Rattle.reply.specs.Numbers.{room_in}
 use Rattle.reply.proofs.numbers.read_numbers.Goals as goal
-use Rattle.reply.proofs.numbers.read_numbers.Goals.{After-place_in-at, After-put_row, At-loop-st}
+use Rattle.reply.proofs.numbers.read_numbers.Goals.{After-put_row}
 
--- at the loop's head
-module _ (c : At-loop-st) where
-  abbrev reply : List ℕ
-  reply = c.args.reply.now
-
-  abbrev lent : List ℕ
-  lent = c.args.numbers.now
-
--- with the place of a row: it is one of them
-module _ (c : After-place_in-at) where
-  left : c.loop-st.st.pos < c.loop-st.st.end
-  left = c.loop-st-test.true
-
-  row_fits : c.place_in-at.result * 4 + 4 ≤ length c.loop-st.numbers
-  row_fits =
-      let i = c.loop-st.invariant in
-      let below : place_in c.loop-st.st (room_in (lent head)) < room_in (lent head) =
-      place_below c.loop-st.st (room_in (lent head)) (i.come.ready.some left) in
-      omega (arith, below, c.place_in-at.ensures, i.size, four_fit (length (lent head)))
+-- the place of a turn is that of a row
+row_fits : (st : Stand) (lent numbers : List ℕ) → Starts (room_in lent) st → st.pos < st.end
+    → length numbers ≡ length lent → place_in st (room_in lent) * 4 + 4 ≤ length numbers
+row_fits st lent numbers ready left size =
+    omega (arith, place_below st (room_in lent) (ready.some left), four_fit (length lent))
 
 -- with the row put: a turn is taken
 module _ (c : After-put_row) where
-  taken : Taken fours (reply placed) (room_in (lent placed)) c.loop-st.st
-      c.loop-st.numbers c.place_in-at.result c.row_in-old.result
-      c.take_turn-t.result c.put_row.new.0
+  taken : Taken fours c.args.reply.now (room_in c.args.numbers.now) c.loop-st.st c.loop-st.numbers
+      c.place_in-at.result c.row_in-old.result c.take_turn-t.result c.put_row.new.numbers
   taken =
       record {
         place = c.place_in-at.ensures;
@@ -51,18 +38,22 @@ loop-st-init c = record { come = rw c.begin-st.ensures (come_first fours _ _ _);
 
 pub put_row-requires : goal.put_row-requires
 put_row-requires c =
-    row_fits (goal.at.put_row-requires c).After-place_in-at
+    let i = c.loop-st.invariant in
+    rw c.place_in-at.ensures (row_fits c.loop-st.st _ _ i.come.ready c.loop-st-test.true i.size)
 
 pub loop-st-smaller : goal.loop-st-smaller
 loop-st-smaller c =
-    take_less (taken (goal.at.loop-st-smaller c).After-put_row) (head c).loop.inv.come (left (goal.at.loop-st-smaller c).After-place_in-at)
+    take_less (taken (goal.at.loop-st-smaller c).After-put_row) c.loop-st.invariant.come c.loop-st-test.true
 
 pub loop-st-preserved : goal.loop-st-preserved
 loop-st-preserved c =
-    let i = (head c).loop.inv in
+    let i = c.loop-st.invariant in
+    let t = taken (goal.at.loop-st-preserved c).After-put_row in
     record {
-      come = take_on (taken (goal.at.loop-st-preserved c).After-put_row) i.come (left (goal.at.loop-st-preserved c).After-place_in-at);
-      size = ap length (taken (goal.at.loop-st-preserved c).After-put_row).memory ∙ same_size _ _ _ (row_fits (goal.at.loop-st-preserved c).After-place_in-at) ∙ i.size;
+      come = take_on t i.come c.loop-st-test.true;
+      size =
+          ap length t.memory
+          ∙ same_size _ _ _ (rw t.place (row_fits c.loop-st.st _ _ i.come.ready c.loop-st-test.true i.size)) ∙ i.size;
     }
 
 pub shape_of-numbers : goal.shape_of-numbers
