@@ -10,7 +10,6 @@ use Rattle.table.specs.declared.Sort.{Sort}
 use Rattle.table.specs.Item.{fits}
 use Rattle.table.specs.declared.Close.TheVariants as Close
 use Rattle.table.specs.declared.Head.TheVariants as Head
-use Rattle.table.specs.declared.Item.TheVariants as Item
 use Rattle.mates.specs.Mates.{Open, scan}
 use Rattle.mates.specs.Code.{Role, role_of, roles_of, fits_role, scan_role}
 

@@ -5,16 +5,14 @@ use mathlib.Core.Bool.{Bool, true, false, ◌||◌}
 use mathlib.Core.List.{List, []}
 use native.Mathlib.Omega.{arith}
 use Rattle.table.specs.declared.Item.{Item}
-use Rattle.table.specs.declared.Item.TheVariants as Item
 use Rattle.table.specs.declared.Close.TheVariants as Close
 use Rattle.table.specs.declared.Pack.TheVariants as Pack
 use Rattle.table.specs.Item.{is_loop, is_sweep}
 use Rattle.table.specs.ReadWrite.{Names, writes_of}
 use Rattle.sets.specs.Names.{either, put, names_of}
-use Rattle.rules.specs.Check.{Box, Held, begin, after}
+use Rattle.rules.specs.Check.{Box, begin, after}
 use Rattle.rules.specs.Code.{Form, Around, Holds, holds_of, box_of, boxes_in, state_of, state_after, Boxed, plain_form}
 use Rattle.rules.specs.Code.{is_open, is_close, sort_in, mark_in, moved, Deeper, entered, Outside, Starts}
-use Rattle.rules.specs.declared.briefs.Form.TheVariants as Form
 use Rattle.rules.specs.declared.written.Held as coded
 use Rattle.rules.proofs.Forms.{no, formed, head_sort}
 

@@ -4,10 +4,8 @@ use mathlib.Core.Bool.{Bool, true, false, cond}
 use lib.Dec.{eqb}
 pub use Rattle.laws.proofs.Bools.{no}
 use Rattle.table.specs.declared.Item.{Item}
-use Rattle.table.specs.declared.Item.TheVariants as Item
 use Rattle.table.specs.declared.Pack.TheVariants as Pack
 use Rattle.table.specs.declared.Head.{Head}
-use Rattle.table.specs.declared.Head.TheVariants as Head
 use Rattle.table.specs.declared.Sweep.{Sweep}
 use Rattle.table.specs.declared.Sort.TheVariants as Sort
 use Rattle.table.specs.Item as Of
@@ -15,7 +13,6 @@ use Rattle.table.specs.ReadWrite.{breaks_order}
 use Rattle.rules.specs.Check.{same_name}
 use Rattle.rules.specs.Code.{Form, head_form, plain_form, form_by}
 use Rattle.rules.specs.Code.{is_wrong, is_open, is_branch, is_close, is_tag, is_twice, sort_in, order_in}
-use Rattle.rules.specs.declared.briefs.Form.TheVariants as Form
 
 pub record Formed (x : Item) (f : Form) : Type 0 where
   pub right : is_wrong f ≡ false

@@ -11,7 +11,6 @@ use lib.ListN.{length, take, drop, replicate}
 use borrow.Author.Tests.{eq-eqb}
 use Rattle.laws.proofs.Bools.{no}
 use Rattle.table.specs.declared.Item.{Item}
-use Rattle.table.specs.declared.Item.TheVariants as Item
 use Rattle.table.specs.declared.Table.{Table}
 use Rattle.table.specs.declared.Known.TheVariants as Known
 use Rattle.table.specs.Item.{is_open, is_branch, is_close, fits}

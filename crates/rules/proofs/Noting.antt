@@ -20,7 +20,6 @@ use Rattle.sets.specs.Names.{either, outside, names_of}
 use Rattle.sets.proofs.Bits.{length-names}
 use Rattle.sets.proofs.Members.{read_outside, put_either}
 use Rattle.rules.specs.Code.{Form, Brief, Briefs, Noted, Notes, notes, Told, Reached}
-use Rattle.rules.specs.declared.briefs.Form.TheVariants as Form
 
 -- of an item whose names are among the 32
 noted : {k : Kinds} {x : Item} {b : Brief} (names : ℕ) → Briefs k x b → names ≤ 32 → reads_ok names (reads_of x) ≡ true

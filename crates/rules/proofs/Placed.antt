@@ -9,7 +9,6 @@ use Rattle.table.specs.declared.Sort.{Sort}
 use Rattle.table.specs.declared.Head.{Head}
 use Rattle.table.specs.declared.Branch.{Branch}
 use Rattle.table.specs.declared.Item.{Item}
-use Rattle.table.specs.declared.Item.TheVariants as Item
 use Rattle.table.specs.Item.{sort_of, is_else}
 use Rattle.table.specs.ReadWrite.{Names, act_writes, head_writes, packs}
 use Rattle.sets.specs.Names.{nothing, everything, both, put}

@@ -7,10 +7,8 @@ use native.Mathlib.Omega.{arith}
 use lib.Dec.{leb, eqb}
 use borrow.Author.Tests.{ne_eqb, leb-false}
 use Rattle.table.specs.declared.Item.{Item}
-use Rattle.table.specs.declared.Item.TheVariants as Item
 use Rattle.table.specs.declared.Close.TheVariants as Close
 use Rattle.table.specs.declared.Head.{Head}
-use Rattle.table.specs.declared.Head.TheVariants as Head
 use Rattle.table.specs.declared.Sort.TheVariants as Sort
 use Rattle.table.specs.Item as Of
 use Rattle.table.specs.Item.{is_loop}
@@ -20,7 +18,6 @@ use Rattle.rules.specs.Check.{Box, Held, refusals, refusals_at_end, misplaced, b
 use Rattle.rules.specs.Code.{Form, Around, Holds, holds_of, box_of, boxes_in, state_of, Boxed}
 use Rattle.rules.specs.Code.{head_form, plain_form, form_by, wrong_both, Noted}
 use Rattle.rules.specs.Code.{is_wrong, is_open, is_branch, in_if, base_in, mark_in, rows_in, rows_at_end}
-use Rattle.rules.specs.declared.briefs.Form.TheVariants as Form
 use Rattle.rules.specs.declared.written.Held as coded
 use Rattle.rules.proofs.Forms.{no, formed}
 

@@ -11,7 +11,6 @@ use Rattle.table.specs.ReadWrite.{Names, has, Kinds, kind_at, differ}
 use Rattle.sets.specs.Names.{nothing, names_of}
 use Rattle.sets.proofs.Bits.{length-names}
 use Rattle.table.specs.declared.Known.{Known}
-use Rattle.table.specs.declared.Known.TheVariants as Known
 use Rattle.table.specs.declared.Kind.TheVariants as Kind
 use Rattle.rules.specs.Check.{is_known, or_else}
 use Rattle.rules.specs.Code.{Sorted, kind_by, kinds_by, kinds_in, is_whole, is_float, learnt}

@@ -8,10 +8,8 @@ use lib.ListN.{length}
 use Rattle.table.specs.declared.Table.{Table}
 use Rattle.rules.specs.Check.{verdict}
 use Rattle.rules.specs.declared.Refusal.{Refusal}
-use Rattle.rules.specs.declared.Refusal.TheVariants as Refusal
 use Rattle.rules.specs.Verdict.{number_of, meaning}
 use Rattle.rules.specs.declared.Verdict.{Verdict as Answer}
-use Rattle.rules.specs.declared.Verdict.TheVariants as Answer
 
 -- the rule of a number
 abbrev pub rule_of : ℕ → Refusal

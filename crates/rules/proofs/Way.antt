@@ -16,14 +16,11 @@ use Rattle.rules.specs.Check.{Box, Held, begin, kinds_of, refusals_at_end, after
 use Rattle.rules.specs.Check.{refused, or_go, walk, line_of, at_line, verdict}
 use Rattle.rules.specs.declared.Refusal.{Refusal}
 use Rattle.rules.specs.declared.Finding.{Finding}
-use Rattle.rules.specs.declared.Finding.TheVariants as Finding
 use Rattle.rules.specs.Verdict.{number_of, found}
 use Rattle.rules.specs.Code.{Form, Around, Holds, holds_of, box_of, boxes_in, state_of, state_after, Boxed}
 use Rattle.rules.specs.Code.{Notes, NotedAt, Told, is_open, is_close, rows_in, rows_at_end, moved, Deeper, entered}
 use Rattle.rules.specs.Code.{Outside, Starts, Walk, Out, rest_of, come_to, come_out, outcome, out_state}
 use Rattle.rules.specs.Code.{back_by, left_by, Went, Took, plain_form, wrong_both, mark_in}
-use Rattle.rules.specs.declared.Refusal.TheVariants as Refusal
-use Rattle.rules.specs.declared.briefs.Form.TheVariants as Form
 use Rattle.rules.specs.declared.written.Held as coded
 use Rattle.rules.proofs.Forms.{no, plain_form_lem}
 use Rattle.rules.proofs.Rows.{judged_in, end_in_lem, no_mark_lem, right_form, no_box_left}

@@ -2,20 +2,14 @@
 -- `after` made of the items before it; each rule is a row, its number and its test, and the lowest that holds is given.
 use Rattle.std.specs.Prelude.{ℕ, zero, suc, Bool, true, false, not, ◌&&◌, ◌||◌, cond, List, [], ◌∷◌, eqb, ltb, leb, length, set, replicate}
 use Rattle.table.specs.declared.Act.{Act}
-use Rattle.table.specs.declared.Act.TheVariants as Act
 use Rattle.table.specs.declared.Head.{Head}
-use Rattle.table.specs.declared.Head.TheVariants as Head
 use Rattle.table.specs.declared.Branch.{Branch}
 use Rattle.table.specs.declared.Table.{Table}
 use Rattle.table.specs.declared.Item.{Item}
-use Rattle.table.specs.declared.Item.TheVariants as Item
 use Rattle.table.specs.declared.Sort.{Sort}
-use Rattle.table.specs.declared.Sort.TheVariants as Sort
 use Rattle.table.specs.declared.Known.{Known}
-use Rattle.table.specs.declared.Known.TheVariants as Known
 use Rattle.table.specs.declared.Kind.TheVariants as Kind
 use Rattle.table.specs.declared.Write.{Write}
-use Rattle.table.specs.declared.Write.TheVariants as Write
 use Rattle.table.specs.Item.{sort_of, is_open, is_branch, is_close, is_break, is_tag, is_else, is_loop, is_sweep, opens_a, fits}
 use Rattle.table.specs.ReadWrite.{Kinds, kind_at, kind_in, Names, has, reads_of, writes_of, act_writes, head_writes, wrong}
 use Rattle.table.specs.ReadWrite.{wrong_write, missing, breaks_order, packs, lowest}

@@ -3,18 +3,12 @@
 -- keep.
 use Rattle.std.specs.Prelude.{ℕ, zero, suc, ◌≤◌, ◌<◌, ◌≡◌, Bool, true, false, not, ◌&&◌, ◌||◌, cond, List, [], ◌∷◌, eqb, leb, length, get_or, set, drop}
 use Rattle.table.specs.declared.Item.{Item}
-use Rattle.table.specs.declared.Item.TheVariants as Item
 use Rattle.table.specs.declared.Table.{Table}
 use Rattle.table.specs.declared.Pack.{Pack}
-use Rattle.table.specs.declared.Pack.TheVariants as Pack
 use Rattle.table.specs.declared.Head.{Head}
-use Rattle.table.specs.declared.Head.TheVariants as Head
 use Rattle.table.specs.declared.Close.{Close}
-use Rattle.table.specs.declared.Close.TheVariants as Close
 use Rattle.table.specs.declared.Sort.{Sort}
-use Rattle.table.specs.declared.Sort.TheVariants as Sort
 use Rattle.table.specs.declared.Known.{Known}
-use Rattle.table.specs.declared.Known.TheVariants as Known
 use Rattle.table.specs.declared.Kind.TheVariants as Kind
 use Rattle.table.specs.declared.Read.{Read}
 use Rattle.table.specs.declared.Write.{Write}

@@ -4,12 +4,10 @@
 use Rattle.std.specs.Prelude.{ℕ, suc, ◌+◌, ◌-◌, ◌≡◌, false, List, [], ◌∷◌, ◌++◌, pos, length, replicate}
 use Rattle.std.specs.Float.{fin}
 use Rattle.value.specs.declared.Value.{Value}
-use Rattle.value.specs.declared.Value.TheVariants as Value
 use Rattle.table.specs.declared.Operand.TheVariants as Operand
 use Rattle.value.specs.declared.Comparison.TheVariants as Comparison
 use Rattle.table.specs.declared.Condition.{Condition}
 use Rattle.table.specs.declared.Item.{Item}
-use Rattle.table.specs.declared.Item.TheVariants as Item
 use Rattle.table.specs.declared.Slot.{Slot}
 use Rattle.table.specs.declared.Table.{Table}
 use Rattle.table.specs.declared.Act.TheVariants as Act

@@ -2,11 +2,8 @@
 use Rattle.std.specs.Prelude.{ℕ}
 use Rattle.rules.specs.Check.{Verdict, accepted, refused}
 use Rattle.rules.specs.declared.Refusal.{Refusal}
-use Rattle.rules.specs.declared.Refusal.TheVariants as Refusal
 use Rattle.rules.specs.declared.Finding.{Finding}
-use Rattle.rules.specs.declared.Finding.TheVariants as Finding
 use Rattle.rules.specs.declared.Verdict.{Verdict as Answer}
-use Rattle.rules.specs.declared.Verdict.TheVariants as Answer
 
 abbrev pub number_of : Refusal → ℕ
 number_of Refusal.Kinds = 19

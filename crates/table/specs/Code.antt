@@ -3,10 +3,6 @@ use Rattle.std.specs.Prelude.{List, [], ◌∷◌}
 use Rattle.table.specs.ReadWrite.{Read, Write}
 pub use Rattle.table.specs.declared.Reads.{Reads}
 pub use Rattle.table.specs.declared.Writes.{Writes}
-use Rattle.table.specs.declared.Read.TheVariants as Read
-use Rattle.table.specs.declared.Write.TheVariants as Write
-use Rattle.table.specs.declared.Reads.TheVariants as Reads
-use Rattle.table.specs.declared.Writes.TheVariants as Writes
 
 abbrev pub all_reads : Reads → List Read
 all_reads Reads.Nothing = []

@@ -1,22 +1,12 @@
 -- What an item reads and writes (01, Script text and The checker), and the tests on it that the checker and the machine
 -- share: 19 with 61, 20 with 60, 23 with 64.
 use Rattle.std.specs.Prelude.{ℕ, Bool, true, false, not, ◌||◌, cond, List, [], ◌∷◌, get_or}
-use Rattle.value.specs.declared.Value.TheVariants as Value
 use Rattle.table.specs.Item.{Value, Operand, Condition, Act, Pack, Head, Item}
 pub use Rattle.table.specs.declared.Kind.{Kind}
 pub use Rattle.table.specs.declared.Known.{Known}
 pub use Rattle.table.specs.declared.Read.{Read}
 pub use Rattle.table.specs.declared.Write.{Write}
-use Rattle.table.specs.declared.Operand.TheVariants as Operand
-use Rattle.table.specs.declared.Act.TheVariants as Act
-use Rattle.table.specs.declared.Pack.TheVariants as Pack
-use Rattle.table.specs.declared.Head.TheVariants as Head
 use Rattle.table.specs.declared.Branch.TheVariants as Branch
-use Rattle.table.specs.declared.Item.TheVariants as Item
-use Rattle.table.specs.declared.Kind.TheVariants as Kind
-use Rattle.table.specs.declared.Known.TheVariants as Known
-use Rattle.table.specs.declared.Read.TheVariants as Read
-use Rattle.table.specs.declared.Write.TheVariants as Write
 
 -- ---- reads: an operand of any kind, two of one kind, or one that has to be a float
 

@@ -1,10 +1,7 @@
 -- A round of the row goes on, is refused or leaves the box; an item is refused, opens a box or is passed. Assumes
 -- nothing.
 use mathlib.Core.Path.{sym, ◌∙◌}
-use lib.ListN.{get_or}
-use native.Mathlib.Omega.{arith}
-use Rattle.rules.specs.Code.{Notes, notes}
-use Rattle.rules.proofs.Way.{Judged, refused_at, passed, opened, again, out_refused, out_closed, out_at_end}
+use Rattle.rules.proofs.Way.{refused_at, passed, opened, again, out_refused, out_closed, out_at_end}
 use Rattle.rules.proofs.boxes.+check_block_check_item.Goals as goal
 
 -- ---- the row
