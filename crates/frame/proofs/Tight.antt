@@ -4,13 +4,10 @@ use Rattle.std.proofs.Common.{◌≡◌, ℕ, cond, eqb, List, take, sym, refl, 
 use Rattle.frame.specs.Answer.{meaning_read, meaning_written, number_of}
 use Rattle.frame.specs.declared.HostNumber.{HostNumber}
 use Rattle.frame.specs.declared.InstrumentNumber.{InstrumentNumber}
-use Rattle.frame.specs.declared.ReadFrame.TheVariants as ReadFrame
 use Rattle.frame.specs.declared.ReadFrame.{ReadFrame}
-use Rattle.frame.specs.declared.Refusal.TheVariants as Refusal
 use Rattle.frame.specs.declared.Refusal.{Refusal}
-use Rattle.frame.specs.declared.WrittenFrame.TheVariants as WrittenFrame
 use Rattle.frame.specs.declared.WrittenFrame.{WrittenFrame}
-use Rattle.frame.specs.Frame.{Answer, refused, accepted, Written, leaves, read, write}
+use Rattle.frame.specs.Frame.{Answer, refused, accepted, leaves, read, write}
 
 -- ---- a number tells the refusal, and what an answer says tells the answer
 

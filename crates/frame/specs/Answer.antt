@@ -1,11 +1,8 @@
 -- 01, the table of numbers, 1 to 5: the number of each refusal, and what each answer of the code says. "A refusal
 -- returns its number and place (.. 0 .. where there is none)": none of these has a place. Assumes nothing.
 use Rattle.std.specs.Prelude.{ℕ}
-use Rattle.frame.specs.declared.ReadFrame.TheVariants as ReadFrame
 use Rattle.frame.specs.declared.ReadFrame.{ReadFrame}
-use Rattle.frame.specs.declared.Refusal.TheVariants as Refusal
 use Rattle.frame.specs.declared.Refusal.{Refusal}
-use Rattle.frame.specs.declared.WrittenFrame.TheVariants as WrittenFrame
 use Rattle.frame.specs.declared.WrittenFrame.{WrittenFrame}
 use Rattle.frame.specs.Frame.{Answer, refused, accepted}
 

@@ -1,7 +1,6 @@
 -- 01, Frames: a framed line, the reader and the writer. Assumes nothing.
 use Rattle.std.specs.Prelude.{ℕ, ◌+◌, ◌-◌, ◌%◌, Bool, false, cond, not, ◌&&◌, ◌||◌, List, [], ◌∷◌, ◌++◌, length, take, ◌==◌, nat_lt}
 use Rattle.crc.specs.Crc.{crc}
-use Rattle.text.specs.declared.Hex.TheVariants as Hex
 use Rattle.text.specs.declared.Hex.{Hex}
 use Rattle.text.specs.Hex.{read_hex, hex2, hex4}
 use Rattle.text.specs.Put.{put}

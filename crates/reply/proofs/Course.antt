@@ -10,15 +10,11 @@ use Rattle.laws.proofs.Apart.{apart}
 use Rattle.text.specs.Cut.{lines}
 use Rattle.reply_line.specs.declared.Line.{Line}
 use Rattle.reply_line.specs.declared.Refusal.{Refusal}
-use Rattle.reply_line.specs.declared.Refusal.TheVariants as Refusal
 use Rattle.reply_line.specs.Line.{line_at}
 use Rattle.reply_step.specs.declared.Move.{Move}
-use Rattle.reply_step.specs.declared.Move.TheVariants as Move
 use Rattle.reply_step.specs.Step.{Open, step}
 use Rattle.reply.specs.declared.Answer.{Answer}
-use Rattle.reply.specs.declared.Answer.TheVariants as Answer
 use Rattle.reply.specs.declared.NextLine.{NextLine}
-use Rattle.reply.specs.declared.NextLine.TheVariants as NextLine
 use Rattle.reply.specs.declared.Row.{Row}
 use Rattle.reply.specs.Lines.{next_line}
 use Rattle.reply.specs.Reply.{by_move, verdict_from}

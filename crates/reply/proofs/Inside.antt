@@ -11,9 +11,7 @@ use lib.Seq.{get_or_at}
 use Rattle.laws.proofs.Apart.{apart}
 use Rattle.text.specs.Cut.{lines}
 use Rattle.reply_line.specs.declared.Line.{Line}
-use Rattle.reply_line.specs.declared.Line.TheVariants as Line
 use Rattle.reply_line.specs.declared.RowKind.{RowKind}
-use Rattle.reply_line.specs.declared.RowKind.TheVariants as RowKind
 use Rattle.reply_step.specs.declared.Move.TheVariants as Move
 use Rattle.reply_step.specs.Step.{Open, begun, step, innermost, may_open, opened, closed, outer, closes}
 use Rattle.reply_step.proofs.Leading.{LeadsOn, InPlace, open_after, Onward, onward}

@@ -12,10 +12,8 @@ use lib.ListN.{length, take, drop, get_or, set, length-set}
 use Rattle.text.specs.Put.{put}
 use Rattle.text.proofs.Put.{length-put, put_more}
 use Rattle.reply_line.specs.declared.RowKind.{RowKind}
-use Rattle.reply_line.specs.declared.RowKind.TheVariants as RowKind
 use Rattle.reply_line.specs.Line.{letter_of}
 use Rattle.reply.specs.declared.Answer.{Answer}
-use Rattle.reply.specs.declared.Answer.TheVariants as Answer
 use Rattle.reply.specs.declared.Row.{Row}
 use Rattle.reply.specs.Code.{cut_row, put_row, fours}
 use Rattle.reply.specs.Numbers.{four_of, listed, room_in, numbers_after, numbers_of, kind_of, row_at, row_in}

@@ -6,7 +6,6 @@ use Prim.Native.Nat.{ℕ, ◌*◌, ◌≤◌, ◌<◌}
 use lib.ListN.{length, get_or}
 use Rattle.text.specs.Put.{put}
 use Rattle.reply.specs.declared.Answer.{Answer}
-use Rattle.reply.specs.declared.Answer.TheVariants as Answer
 use Rattle.reply.specs.Numbers.{listed, room_in, numbers_after, numbers_of, row_in}
 use Rattle.reply.specs.Reply.{verdict, meaning, outcome_of}
 use Rattle.reply.specs.Rows.{script_row, rows_of}

@@ -6,7 +6,6 @@ use Prim.Native.Nat.{ℕ, suc, ◌<◌}
 use lib.ListN.{length, drop, get_or, set, length-set, length-append, get_or-append}
 use lib.Seq.{drop-cons, set-append_seam, set-append_left}
 use Rattle.reply.specs.declared.Answer.{Answer}
-use Rattle.reply.specs.declared.Answer.TheVariants as Answer
 use Rattle.reply.specs.declared.Row.{Row}
 use Rattle.reply.specs.Code.{table}
 use Rattle.reply.specs.Reply.{verdict}

@@ -11,7 +11,6 @@ use lib.Seq.{set-get_or}
 use Rattle.text.specs.Cut.{lines}
 use Rattle.reply_line.specs.declared.RowKind.{RowKind}
 use Rattle.reply_line.specs.declared.Line.{Line}
-use Rattle.reply_line.specs.declared.Line.TheVariants as Line
 use Rattle.reply_line.specs.declared.Refusal.{Refusal}
 use Rattle.reply_line.specs.Line.{later_line, line_at}
 use Rattle.reply_line.proofs.Lines.{known_same}
@@ -19,7 +18,6 @@ use Rattle.reply_step.specs.declared.Move.TheVariants as Move
 use Rattle.reply_step.specs.Step.{Open, step}
 use Rattle.reply_step.proofs.Leading.{refused_not_on, refused_not_ends, LeadsOn, onward, Ending, ending}
 use Rattle.reply.specs.declared.Answer.{Answer}
-use Rattle.reply.specs.declared.Answer.TheVariants as Answer
 use Rattle.reply.specs.declared.Change.{Change}
 use Rattle.reply.specs.declared.Row.{Row}
 use Rattle.reply.specs.declared.Seen.{Seen}

@@ -10,14 +10,11 @@ use lib.ListN.{length, get_or, set, length-set, length-append, get_or-append, ge
 use lib.Seq.{get_or_at, map-set_same}
 use Rattle.text.specs.Cut.{lines}
 use Rattle.reply_line.specs.declared.RowKind.{RowKind}
-use Rattle.reply_line.specs.declared.RowKind.TheVariants as RowKind
 use Rattle.reply_line.specs.declared.Line.{Line}
-use Rattle.reply_line.specs.declared.Line.TheVariants as Line
 use Rattle.reply_step.specs.declared.Move.TheVariants as Move
 use Rattle.reply_step.specs.Step.{Open, begun, step, opened, closed}
 use Rattle.reply_step.proofs.Leading.{LeadsOn, open_after, Onward, onward}
 use Rattle.reply.specs.declared.Answer.{Answer}
-use Rattle.reply.specs.declared.Answer.TheVariants as Answer
 use Rattle.reply.specs.declared.Row.{Row}
 use Rattle.reply.specs.Reply.{verdict_from}
 use Rattle.reply.specs.Rows.{script_row, new_row, raised, rows_after, holder_after, rows_of, seen_in}

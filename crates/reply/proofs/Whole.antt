@@ -11,16 +11,12 @@ use lib.Dec.{ltb, leb}
 use lib.ListN.{length, take, drop}
 use Rattle.text.specs.Cut.{lines}
 use Rattle.text.specs.declared.Hex.{Hex}
-use Rattle.text.specs.declared.Hex.TheVariants as Hex
 use Rattle.reply_line.specs.declared.Line.{Line}
-use Rattle.reply_line.specs.declared.Line.TheVariants as Line
 use Rattle.reply_line.specs.declared.Refusal.{Refusal}
-use Rattle.reply_line.specs.declared.Refusal.TheVariants as Refusal
 use Rattle.reply_line.specs.Line.{line_at, first_line, first_error, with_row, is_e, error_code}
 use Rattle.reply_step.specs.declared.Move.TheVariants as Move
 use Rattle.reply_step.specs.Step.{begun, step}
 use Rattle.reply.specs.declared.Answer.{Answer}
-use Rattle.reply.specs.declared.Answer.TheVariants as Answer
 use Rattle.reply.specs.declared.Row.{Row}
 use Rattle.reply.specs.declared.Stand.{Stand}
 use Rattle.reply.specs.Code.{seen_at, place_by, one_more, change_by, none_left, standing, start_in, place_in}

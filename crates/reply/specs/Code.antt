@@ -4,13 +4,10 @@ use Rattle.std.specs.Prelude.{true, cond, List, [], ◌∷◌, ℕ, zero, suc, �
 use Rattle.text.specs.Put.{put}
 use Rattle.reply_line.specs.declared.RowKind.TheVariants as RowKind
 use Rattle.reply_line.specs.declared.Line.{Line}
-use Rattle.reply_line.specs.declared.Line.TheVariants as Line
 use Rattle.reply_line.specs.Line.{letter_of}
 use Rattle.reply_line.specs.Code.{later_by}
 use Rattle.reply.specs.declared.NextLine.{NextLine}
-use Rattle.reply.specs.declared.NextLine.TheVariants as NextLine
 use Rattle.reply.specs.declared.Answer.{Answer}
-use Rattle.reply.specs.declared.Answer.TheVariants as Answer
 use Rattle.reply.specs.declared.Row.{Row}
 use Rattle.reply.specs.declared.Seen.{Seen}
 use Rattle.reply.specs.declared.Stand.{Stand}

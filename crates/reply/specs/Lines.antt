@@ -5,7 +5,6 @@ use Rattle.std.specs.Borrow.{Bor}
 use Rattle.text.specs.Cut.{before}
 use Rattle.reply.specs.declared.LineReader.{LineReader}
 use Rattle.reply.specs.declared.NextLine.{NextLine}
-use Rattle.reply.specs.declared.NextLine.TheVariants as NextLine
 
 -- where the line that starts at a place ends
 abbrev pub end_at : List ℕ → ℕ → ℕ

@@ -4,10 +4,8 @@ use Rattle.text.specs.Cut.{lines}
 use Rattle.reply_line.specs.declared.Refusal.TheVariants as Refusal
 use Rattle.reply_line.specs.Line.{number_of, line_at}
 use Rattle.reply_step.specs.declared.Move.{Move}
-use Rattle.reply_step.specs.declared.Move.TheVariants as Move
 use Rattle.reply_step.specs.Step.{Open, begun, step}
 use Rattle.reply.specs.declared.Answer.{Answer}
-use Rattle.reply.specs.declared.Answer.TheVariants as Answer
 
 -- ---- what an answer means: the values of a reply that is read, or a refusal's number and line
 

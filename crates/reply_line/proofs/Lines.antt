@@ -10,9 +10,7 @@ use native.Mathlib.Omega.{arith}
 use Prim.Native.Nat.{ℕ, ◌+◌, ◌≤◌}
 use Rattle.package.specs.Package.{Verdict, package_of, verdict_of}
 use Rattle.reply_line.specs.Code.{later_by, package_by}
-use Rattle.reply_line.specs.declared.Line.TheVariants as Line
 use Rattle.reply_line.specs.declared.Line.{Line}
-use Rattle.reply_line.specs.declared.Refusal.TheVariants as Refusal
 use Rattle.reply_line.specs.declared.Refusal.{Refusal}
 use Rattle.reply_line.specs.Line.{by_first, later_line, later_rows, non_zero, package_line}
 use Rattle.reply_line.specs.Line.{row_of, unknown}

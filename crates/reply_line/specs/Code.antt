@@ -2,7 +2,6 @@
 -- a package is not read again. Assumes nothing.
 use Rattle.std.specs.Prelude.{leb, length, get_or, Bool, cond, List, ℕ}
 use Rattle.package.specs.Package.{verdict_of, package_of}
-use Rattle.reply_line.specs.declared.Line.TheVariants as Line
 use Rattle.reply_line.specs.declared.Line.{Line}
 use Rattle.reply_line.specs.Line.{package_line, by_first}
 

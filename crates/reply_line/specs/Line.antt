@@ -1,15 +1,11 @@
 -- 01, Packages and replies, with 02's scans: what one line of a reply is, by itself. Assumes nothing.
 use Rattle.std.specs.Prelude.{leb, ltb, eqb, length, get_or, drop, Bool, ◌&&◌, ◌||◌, cond, List, [], ◌∷◌, ℕ}
 use Rattle.package.specs.Package.{Verdict, verdict_of, package_of}
-use Rattle.reply_line.specs.declared.RowKind.TheVariants as RowKind
 use Rattle.reply_line.specs.declared.RowKind.{RowKind}
-use Rattle.reply_line.specs.declared.Line.TheVariants as Line
 use Rattle.reply_line.specs.declared.Line.{Line}
-use Rattle.reply_line.specs.declared.Refusal.TheVariants as Refusal
 use Rattle.reply_line.specs.declared.Refusal.{Refusal}
 use Rattle.text.specs.Bytes.{byte}
 use Rattle.text.specs.Decimal.{digit_run}
-use Rattle.text.specs.declared.Hex.TheVariants as Hex
 use Rattle.text.specs.declared.Hex.{Hex}
 use Rattle.text.specs.Hex.{read_hex}
 

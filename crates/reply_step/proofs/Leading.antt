@@ -7,9 +7,7 @@ use lib.Dec.{leb, ltb}
 use lib.ListN.{length}
 use Rattle.laws.proofs.Apart.{apart}
 use Rattle.reply_line.specs.declared.Line.{Line}
-use Rattle.reply_line.specs.declared.Line.TheVariants as Line
 use Rattle.reply_line.specs.declared.Refusal.{Refusal}
-use Rattle.reply_line.specs.declared.Refusal.TheVariants as Refusal
 use Rattle.reply_line.specs.declared.RowKind.{RowKind}
 use Rattle.reply_step.specs.declared.Move.TheVariants as Move
 use Rattle.reply_step.specs.Step.{Open, Next, goes, refused, may_open, closes, most_open, opened, closed}

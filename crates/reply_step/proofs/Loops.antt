@@ -10,9 +10,7 @@ use lib.ListN.{length, get_or, length-map}
 use Rattle.laws.specs.Stack.{stack}
 use Rattle.laws.proofs.Stack.{stack-length, pushed, topmost}
 use Rattle.reply_line.specs.declared.RowKind.{RowKind}
-use Rattle.reply_line.specs.declared.RowKind.TheVariants as RowKind
 use Rattle.reply_line.specs.declared.Line.{Line}
-use Rattle.reply_line.specs.declared.Line.TheVariants as Line
 use Rattle.reply_line.specs.declared.Refusal.TheVariants as Refusal
 use Rattle.reply_step.specs.declared.Opened.{Opened}
 use Rattle.reply_step.specs.declared.Move.TheVariants as Move

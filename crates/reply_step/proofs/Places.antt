@@ -3,7 +3,6 @@ use mathlib.Core.Bool.{true, false≢true}
 use mathlib.Core.List.{List, [], ◌∷◌}
 use mathlib.Core.Path.{◌≡◌, refl}
 use Rattle.reply_line.specs.declared.RowKind.{RowKind}
-use Rattle.reply_line.specs.declared.RowKind.TheVariants as RowKind
 use Rattle.reply_line.specs.Line.{letter_of}
 use Rattle.reply_step.specs.Step.{innermost, may_open, closes, outer}
 

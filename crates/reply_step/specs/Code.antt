@@ -3,9 +3,7 @@ use Rattle.std.specs.Prelude.{cond, ℕ, ◌+◌, ◌-◌, leb, ltb, set}
 use Rattle.reply_line.specs.declared.RowKind.{RowKind}
 use Rattle.reply_line.specs.declared.Refusal.TheVariants as Refusal
 use Rattle.reply_line.specs.declared.Line.{Line}
-use Rattle.reply_line.specs.declared.Line.TheVariants as Line
 use Rattle.reply_step.specs.declared.Move.{Move}
-use Rattle.reply_step.specs.declared.Move.TheVariants as Move
 use Rattle.reply_step.specs.declared.Step.{Step}
 use Rattle.reply_step.specs.Step.{may_open, closes, most_open}
 use Rattle.reply_step.specs.Meaning.{kinds}

@@ -3,12 +3,9 @@
 use Rattle.std.specs.Prelude.{List, map, ◌≡◌, ℕ, set, replicate}
 use Rattle.laws.specs.Stack.{stack}
 use Rattle.reply_line.specs.declared.RowKind.{RowKind}
-use Rattle.reply_line.specs.declared.RowKind.TheVariants as RowKind
 use Rattle.reply_line.specs.declared.Line.{Line}
-use Rattle.reply_line.specs.declared.Line.TheVariants as Line
 use Rattle.reply_step.specs.declared.Opened.{Opened}
 use Rattle.reply_step.specs.declared.Move.{Move}
-use Rattle.reply_step.specs.declared.Move.TheVariants as Move
 use Rattle.reply_step.specs.declared.Step.{Step}
 use Rattle.reply_step.specs.Step.{Open, Next, most_open, step}
 use Rattle.reply_step.specs.declared.Open as coded

@@ -1,14 +1,10 @@
 -- 01, Packages and replies, with 02's scans: what a line of a reply does. Assumes nothing.
 use Rattle.std.specs.Prelude.{Bool, false, cond, not, List, [], ◌∷◌, ℕ, ◌+◌, leb, ltb, eqb, length}
 use Rattle.reply_line.specs.declared.RowKind.{RowKind}
-use Rattle.reply_line.specs.declared.RowKind.TheVariants as RowKind
 use Rattle.reply_line.specs.declared.Refusal.{Refusal}
-use Rattle.reply_line.specs.declared.Refusal.TheVariants as Refusal
 use Rattle.reply_line.specs.declared.Line.{Line}
-use Rattle.reply_line.specs.declared.Line.TheVariants as Line
 use Rattle.reply_line.specs.Line.{letter_of}
 use Rattle.reply_step.specs.declared.Move.{Move}
-use Rattle.reply_step.specs.declared.Move.TheVariants as Move
 
 -- the kinds of what is open, innermost first, and how many rows there are
 pub record Open : Type 0 where

@@ -2,17 +2,11 @@
 -- Assumes nothing.
 use borrow.Author.Rules.{rules}
 use borrow.Author.Tests.{lt-leb, le-leb}
-use mathlib.Core.List.{List}
-use mathlib.Core.Path.{◌≡◌, sym, ◌∙◌}
+use mathlib.Core.Path.{sym, ◌∙◌}
 use native.Mathlib.Omega.{arith}
-use Prim.Native.Nat.{ℕ, ◌-◌}
 use Rattle.reply_step.specs.Meaning.{meant, stepped}
-use Rattle.reply_step.specs.Step.{Open}
-use Rattle.reply_step.specs.declared.Open as coded
-use Rattle.reply.proofs.Lines.{Stands, stands, Round, place, goes_on, ends_here, refused_here, no_line}
+use Rattle.reply.proofs.Lines.{stands, Round, place, goes_on, ends_here, refused_here, no_line}
 use Rattle.reply.proofs.Lines.{no_more}
-use Rattle.reply.specs.declared.NextLine.TheVariants as NextLine
-use Rattle.reply.specs.Lines.{next_line}
 use Rattle.reply.specs.Reply.{verdict}
 use Rattle.reply.proofs.judge.Goals as goal
 use Rattle.reply.proofs.judge.Goals.{After-step_of-step}

@@ -6,9 +6,7 @@ use mathlib.Core.Path.{◌≡◌}
 use Prim.Native.Nat.{ℕ, ◌+◌, ◌-◌, ◌≤◌}
 use Rattle.text.specs.Cut.{lines}
 use Rattle.reply_step.specs.Meaning.{meant}
-use Rattle.reply_step.specs.Step.{Open}
 use Rattle.reply_step.specs.declared.Open as coded
-use Rattle.reply.specs.declared.NextLine.TheVariants as NextLine
 use Rattle.reply.specs.Reply.{verdict_from, verdict}
 use Rattle.reply.proofs.judge.Given as goal
 

@@ -11,7 +11,6 @@ use Rattle.reply.proofs.Whole.{Starts}
 use Rattle.reply.specs.declared.Row.{Row}
 use Rattle.reply.specs.declared.Stand.{Stand}
 use Rattle.reply.specs.Code.{place_in, table}
-use Rattle.reply.specs.Rows.{script_row}
 use Rattle.reply.proofs.read_reply.Goals as goal
 use Rattle.reply.proofs.read_reply.Goals.{After-take_turn-t}
 

@@ -2,9 +2,7 @@
 use borrow.Author.Tests.{lt-leb}
 use lib.ListN.{get_or}
 use mathlib.Core.Bool.{Bool}
-use mathlib.Core.List.{List}
-use mathlib.Core.Path.{◌≡◌, refl, sym, ◌∙◌, ap}
-use Prim.Native.Nat.{ℕ}
+use mathlib.Core.Path.{refl, sym, ◌∙◌, ap}
 use Rattle.reply_line.proofs.Lines.{later_is, no_line}
 use Rattle.reply_line.specs.Code.{later_by, package_by}
 use Rattle.reply_line.specs.Line.{by_first}

@@ -1,7 +1,6 @@
 -- `reply_line::package_line`: the package's answer, at the line. Assumes nothing.
 use mathlib.Core.Path.{◌≡◌, sym, ◌∙◌, ap}
 use Prim.Native.Nat.{ℕ}
-use Rattle.package.specs.declared.Answer.TheVariants as Answer
 use Rattle.package.specs.declared.Answer.{Answer}
 use Rattle.package.specs.declared.Refusal.{Refusal}
 use Rattle.package.specs.Package.{meaning, number_of, package_of, verdict_of}

@@ -4,7 +4,7 @@ use lib.ListN.{length}
 use mathlib.Core.List.{List}
 use mathlib.Core.Path.{◌≡◌, refl, ◌∙◌, ap}
 use native.Mathlib.Omega.{arith}
-use Prim.Native.Nat.{ℕ, ◌+◌, ◌*◌, ◌-◌, ◌<◌, ◌≤◌}
+use Prim.Native.Nat.{ℕ, ◌+◌, ◌*◌, ◌<◌, ◌≤◌}
 use Rattle.reply.proofs.Coming.{come_first, Taken, take_on, take_less, come_end, come_says}
 use Rattle.reply.proofs.Listed.{four_fit, same_size, numbers_are}
 use Rattle.reply.proofs.Turns.{place_below}
