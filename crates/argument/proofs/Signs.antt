@@ -6,7 +6,6 @@ use native.Mathlib.Omega.{arith}
 use lib.ListN.{get_or}
 use lib.Seq.{get_or-drop}
 use Rattle.value.specs.declared.Comparison.{Comparison}
-use Rattle.value.specs.declared.Comparison.TheVariants as Comparison
 use Rattle.argument.specs.Argument.{comparison_at, comparisons}
 
 same_tail : (d : Comparison) (m : ℕ) → d ≡ get_or (d ∷ []) m d

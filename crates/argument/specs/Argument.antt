@@ -3,18 +3,13 @@
 use Rattle.std.specs.Prelude.{◌≡◌, Bool, true, false, cond, List, [], ◌∷◌, ℕ, ◌+◌, ◌≤◌, ltb, eqb, length, drop, get_or}
 use Rattle.text.specs.Cut.{before}
 use Rattle.value.specs.declared.Comparison.{Comparison}
-use Rattle.value.specs.declared.Comparison.TheVariants as Comparison
 use Rattle.value.specs.declared.Literal.{Literal}
-use Rattle.value.specs.declared.Literal.TheVariants as Literal
 use Rattle.value.specs.Literal.{literal as readLiteral}
 use Rattle.table.specs.declared.Operand.TheVariants as Operand
 use Rattle.word.specs.declared.Class.TheVariants as Class
 use Rattle.word.specs.declared.Found.{Found}
-use Rattle.word.specs.declared.Found.TheVariants as Found
 use Rattle.word.specs.declared.TypeName.{TypeName}
-use Rattle.word.specs.declared.TypeName.TheVariants as TypeName
 use Rattle.word.specs.declared.Small.{Small}
-use Rattle.word.specs.declared.Small.TheVariants as Small
 use Rattle.text.specs.Bytes.{byte, ascii}
 use Rattle.word.specs.Word.{run, word_at, part, name_form, read_type, small_of as readNumber, padded, seek}
 use Rattle.argument.specs.declared.Refusal.TheVariants as Refusal

@@ -1,7 +1,6 @@
 -- 01, "The checker": the numbers of form, 10 to 18.
 use Rattle.std.specs.Prelude.{ℕ}
 pub use Rattle.argument.specs.declared.Refusal.{Refusal}
-use Rattle.argument.specs.declared.Refusal.TheVariants as Refusal
 
 unfoldable pub number_of : Refusal → ℕ
 number_of Refusal.TooLong = 10

@@ -10,10 +10,8 @@ use Rattle.word.specs.declared.Span.{Span}
 use Rattle.word.specs.declared.Found.TheVariants as Found
 use Rattle.word.specs.Word.{word_at, part, seek}
 use Rattle.argument.specs.declared.Refusal.{Refusal}
-use Rattle.argument.specs.declared.Refusal.TheVariants as Refusal
 use Rattle.argument.specs.Refusal.{number_of}
 use Rattle.argument.specs.declared.Argument.{Argument}
-use Rattle.argument.specs.declared.Argument.TheVariants as Argument
 use Rattle.argument.specs.Holds.{wrong_of}
 use Rattle.argument.specs.Code.{numbered}
 use Rattle.line.specs.Command.{Arguments, item_of, command_words, command_at}

@@ -13,7 +13,6 @@ use Rattle.line.specs.Code.{row_of}
 use Rattle.line.specs.Command.{commands, tag_command, command_words}
 use Rattle.text.specs.Bytes.{ascii}
 use Rattle.word.specs.declared.Found.{Found}
-use Rattle.word.specs.declared.Found.TheVariants as Found
 use Rattle.word.specs.Word.{padded, same_bytes, place, seek}
 
 -- ---- a letter with its words, and the rows at which they stand

@@ -3,11 +3,9 @@ use mathlib.Core.Path.{◌≡◌, sym, ◌∙◌, ap}
 use mathlib.Core.List.{List}
 use Prim.Native.Nat.{ℕ}
 use native.Mathlib.Omega.{arith}
-use Rattle.table.specs.declared.Item.{Item}
 use Rattle.argument.specs.Refusal.{number_of}
 use Rattle.argument.proofs.Refusals.{same_number}
 use Rattle.line.specs.declared.Judged.{Judged}
-use Rattle.line.specs.declared.Judged.TheVariants as Judged
 use Rattle.line.specs.Line.{meaning, judged}
 
 same_meaning : (r r' : Judged) → meaning r ≡ meaning r' → r ≡ r'

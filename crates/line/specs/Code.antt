@@ -1,7 +1,6 @@
 -- What only the code's shape needs: words looked for by their letter, and a line that is over before its arguments are.
 use Rattle.std.specs.Prelude.{ltb, eqb, get_or, Bool, ◌&&◌, cond, List, ℕ}
 use Rattle.word.specs.declared.Found.{Found}
-use Rattle.word.specs.declared.Found.TheVariants as Found
 
 -- the row of a word that was found at a place among those of five rows
 abbrev pub row_of : List ℕ → Found → Found

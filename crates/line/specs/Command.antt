@@ -6,22 +6,15 @@ use Rattle.value.specs.declared.Operation.TheVariants as Operation
 use Rattle.table.specs.declared.Condition.{Condition}
 use Rattle.table.specs.declared.Sweep.{Sweep}
 use Rattle.table.specs.declared.Act.{Act}
-use Rattle.table.specs.declared.Act.TheVariants as Act
 use Rattle.table.specs.declared.Pack.{Pack}
-use Rattle.table.specs.declared.Pack.TheVariants as Pack
 use Rattle.table.specs.declared.Head.{Head}
-use Rattle.table.specs.declared.Head.TheVariants as Head
 use Rattle.table.specs.declared.Branch.{Branch}
-use Rattle.table.specs.declared.Branch.TheVariants as Branch
 use Rattle.table.specs.declared.Close.{Close}
-use Rattle.table.specs.declared.Close.TheVariants as Close
 use Rattle.table.specs.declared.Item.{Item}
-use Rattle.table.specs.declared.Item.TheVariants as Item
 use Rattle.text.specs.Bytes.{byte, ascii}
 use Rattle.word.specs.Word.{padded}
 use Rattle.argument.specs.declared.Argument.{Argument}
 use Rattle.argument.specs.declared.Form.{Form}
-use Rattle.argument.specs.declared.Form.TheVariants as Form
 use Rattle.argument.specs.Holds.{name_of, operand_of, value_of, letters_of, small_of, comparison_of, text_of}
 pub use Rattle.line.specs.declared.Arguments.{Arguments}
 pub use Rattle.line.specs.declared.MakeAct.{MakeAct}

@@ -3,7 +3,6 @@ use Rattle.std.specs.Prelude.{cond, List, ℕ, ltb, get_or}
 use Rattle.std.proofs.Math.Option.{Option, none, some}
 use Rattle.table.specs.declared.Item.{Item}
 use Rattle.word.specs.declared.Found.{Found}
-use Rattle.word.specs.declared.Found.TheVariants as Found
 use Rattle.word.specs.Word.{word_at, part, seek}
 use Rattle.argument.specs.Refusal.{number_of}
 use Rattle.argument.specs.declared.Form.TheVariants as Form
@@ -12,7 +11,6 @@ use Rattle.argument.specs.Argument.{said_at}
 use Rattle.argument.specs.Holds.{wrong_of}
 use Rattle.line.specs.Command.{Command, Arguments, item_of, command_words, command_at, form_of}
 use Rattle.line.specs.declared.Judged.{Judged}
-use Rattle.line.specs.declared.Judged.TheVariants as Judged
 
 -- a line's item, or a number
 pub data Judgement : Type 0 where

@@ -10,7 +10,6 @@ use lib.ListN.{length, drop, get_or}
 use borrow.Author.Tests.{lt-ltb, le-leb, ltb-true}
 use Rattle.text.specs.Cut.{before}
 use Rattle.value.specs.declared.Literal.{Literal}
-use Rattle.value.specs.declared.Literal.TheVariants as Literal
 use Rattle.value.specs.Arithmetic.{finite}
 use Rattle.value.specs.Literal.{literal}
 use Rattle.value.proofs.Finite.{Sound, literal_sound}

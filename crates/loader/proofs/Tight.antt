@@ -5,7 +5,6 @@ use Prim.Native.Nat.{ℕ}
 use Rattle.table.specs.declared.Table.{Table}
 use Rattle.argument.proofs.Refusals.{same_number}
 use Rattle.loader.specs.declared.Answer.{Answer}
-use Rattle.loader.specs.declared.Answer.TheVariants as Answer
 use Rattle.loader.specs.declared.Loaded.{Loaded}
 use Rattle.loader.specs.Load.{Outcome, answer_number, answer_line, meaning, loaded}
 use Rattle.loader.proofs.Walk.{not_zero}

@@ -1,6 +1,5 @@
 -- Laws of the walk over the lines, as the code goes. Assumes nothing.
-use borrow.Author.Tests.{eq-eqb, ne_eqb, ltb-true, le-ltb}
-use lib.Dec.{ltb}
+use borrow.Author.Tests.{eq-eqb, ne_eqb, le-ltb}
 use lib.ListN.{length, take, drop, set, replicate, length-drop, length-set, drop_of_length-le}
 use lib.Seq.{length-take-le, take-suc-set}
 use mathlib.Core.Bool.{Bool, true, false, cond}
@@ -12,8 +11,8 @@ use Prim.Native.Nat.{ℕ, ◌+◌, ◌-◌, ◌≤◌, ◌<◌}
 use Rattle.argument.specs.declared.Refusal.{Refusal}
 use Rattle.argument.specs.declared.Refusal.TheVariants as R
 use Rattle.argument.specs.Refusal.{number_of}
-use Rattle.line.specs.Line.{item, refused, judged}
-use Rattle.loader.proofs.Room.{apart, few}
+use Rattle.line.specs.Line.{item, refused}
+use Rattle.loader.proofs.Room.{few}
 use Rattle.loader.specs.Load.{Outcome, empty_table, declares, counted, appended, Line, nothing, given, Step}
 use Rattle.loader.specs.Load.{taking, taken_by, line_step, name_row, named, refusal, accepted, walk, loaded}
 use Rattle.table.specs.declared.Item.{Item}
@@ -21,7 +20,6 @@ use Rattle.table.specs.declared.Table.{Table}
 use Rattle.text.proofs.Cut as C
 use Rattle.text.specs.Bytes.{byte}
 use Rattle.text.specs.Cut.{before, cut, lines}
-use Rattle.word.specs.Word.{skipped}
 
 -- ---- what holds at each line: what is still to come of the walk is the whole
 

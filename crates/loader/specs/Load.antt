@@ -2,15 +2,12 @@
 use Rattle.std.specs.Prelude.{Bool, true, false, cond, List, [], ◌∷◌, ◌++◌, ℕ, ◌+◌, ltb, eqb, length, take, set, replicate}
 use Rattle.text.specs.Cut.{lines}
 use Rattle.table.specs.declared.Act.{Act}
-use Rattle.table.specs.declared.Act.TheVariants as Act
 use Rattle.table.specs.declared.Item.{Item}
-use Rattle.table.specs.declared.Item.TheVariants as Item
 use Rattle.table.specs.declared.Table.{Table}
 use Rattle.word.specs.Word.{word_at, part, padded, skipped}
 use Rattle.argument.specs.Refusal.{number_of}
 use Rattle.line.specs.Line.{Judgement, item, refused, judged}
 use Rattle.loader.specs.declared.Answer.{Answer}
-use Rattle.loader.specs.declared.Answer.TheVariants as Answer
 use Rattle.loader.specs.declared.Loaded.{Loaded}
 
 -- ---- what loading gives: 01's number and line, both 0 where the text is accepted, and the table

@@ -1,7 +1,5 @@
 -- `line::judge_line` finds the command, then what its arguments say. Assumes nothing.
-use mathlib.Core.List.{List}
 use mathlib.Core.Path.{◌≡◌, sym, ◌∙◌, ap}
-use Prim.Native.Nat.{ℕ}
 use Rattle.argument.specs.Refusal.{number_of}
 use Rattle.line.proofs.Judge.{Asked, unknown, faulty, good}
 use Rattle.line.specs.Command.{command_words}

@@ -1,20 +1,15 @@
 -- `loader::load` goes through the lines in order. What is known at a place of a round is said once, at the place.
 -- Assumes nothing.
 use borrow.Author.Tests.{lt-ltb}
-use lib.ListN.{length}
 use lib.Seq.{length-take-le}
-use mathlib.Core.Bool.{true}
-use mathlib.Core.List.{List}
 use mathlib.Core.Path.{◌≡◌, sym, ◌∙◌, ap}
 use native.Mathlib.Omega.{arith}
-use Prim.Native.Nat.{ℕ, ◌-◌, ◌<◌}
+use Prim.Native.Nat.{◌-◌}
 use Rattle.argument.specs.Refusal.{number_of}
-use Rattle.line.specs.Line.{item}
 use Rattle.loader.proofs.Walk.{begin, no_line, Sought, no_end, ended, Round, known_as, refuses, skips}
 use Rattle.loader.proofs.Walk.{room_for, takes_plain, takes_name}
 use Rattle.loader.specs.Code.{taken_of}
-use Rattle.loader.specs.Load.{declares, given, loaded}
-use Rattle.table.specs.declared.Item.{Item}
+use Rattle.loader.specs.Load.{loaded}
 use Rattle.loader.proofs.load.Goals as goal
 use Rattle.loader.proofs.load.Goals.{After-next_byte-stop, After-take_line-taken}
 
