@@ -5,9 +5,6 @@ pub returns-in-Nothing : goal.returns-in-Nothing
 unfolding checked is_finite
 returns-in-Nothing c = simp c.in-Nothing.is
 
-pub returns-in-Float : goal.returns-in-Float
-returns-in-Float c = simp (c.finite_float.ensures, c.in-Float.is)
-
 pub returns-in-Point : goal.returns-in-Point
 unfolding checked is_finite
 returns-in-Point c = simp c.in-Point.is
