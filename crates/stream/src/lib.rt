@@ -2,7 +2,10 @@
 #![tactic(auto)]
 
 ghost use Rattle.std.specs.Prelude.{◌≡◌};
-ghost use Rattle.stream.specs.Stream.{Within, heard};
+ghost use Rattle.stream.specs.Stream.{Takes, Within, heard};
+
+use std::io;
+use std::io::Read;
 
 // How many bytes of the input stand at the start of the buffer, or that a read failed.
 #[derive(Clone, Copy)]
@@ -18,27 +21,27 @@ enum Heard {
     Over(Input),
 }
 
-// What the C library's read says by its answer, where so many bytes had come before.
-fn hear(got: isize, size: usize) -> Heard
+// What a read says by its answer, where so many bytes had come before.
+#[tactic(auto, unfolding(crate::specs::Stream::heard))]
+fn hear(got: io::Result<usize>, size: usize) -> Heard
     ensures { result ≡ heard got size }
 {
-    if got < 0 {
-        return Heard::Over(Input::Failed);
+    match got {
+        Ok(0) => Heard::Over(Input::Bytes(size)),
+        Ok(more) => Heard::More(more),
+        Err(_) => Heard::Over(Input::Failed),
     }
-    let more = got as usize;
-    if more == 0 {
-        return Heard::Over(Input::Bytes(size));
-    }
-    Heard::More(more)
 }
 
 // Reads until the buffer is full or the input is over.
-pub fn read_whole(fd: i32, buf: &mut [u8]) -> Input
-    ensures { Within result buf.new }
+pub fn read_whole<R: Read>(reader: &mut R, buf: &mut [u8]) -> Input
+    ensures within { Within result buf.new }
+    ensures bytes { Takes (R.remaining reader.old) (R.remaining reader.new) result buf.new }
 {
     let mut size: usize = 0;
     while size < buf.len() {
-        let heard = hear(libc::read(fd, &mut buf[size..]), size);
+        let got = reader.read(&mut buf[size..]);
+        let heard = hear(got, size);
         match heard {
             Heard::Over(input) => return input,
             Heard::More(more) => size += more,

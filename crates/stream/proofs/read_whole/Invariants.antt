@@ -1,16 +1,12 @@
-use mathlib.Core.Path.{◌≡◌}
-use mathlib.Core.List.{List}
-use Prim.Native.Nat.{ℕ, ◌≤◌, ◌-◌}
-use lib.ListN.{length}
+use Rattle.std.proofs.Common.{◌≡◌, ◌-◌, ◌≤◌, length, take}
+use Rattle.std.specs.Io.KnownBytes.{Consumes}
 use Rattle.stream.proofs.read_whole.Given as goal
 
--- What was read stands within the buffer, which is as long as it was.
-pub record Reading (buf₀ buf : List ℕ) (size : ℕ) : Type 0 where
-  pub within : size ≤ length buf
-  pub same : length buf ≡ length buf₀
-
+-- What was read stands within the buffer, which is as long as it was; and it is what was taken of the known bytes.
 abbrev pub invariant-loop-size : goal.invariant-loop-size
-invariant-loop-size l = Reading l.initial.buf l.buf l.size
+invariant-loop-size g l =
+    (l.size ≤ length l.buf) × (length l.buf ≡ length l.initial.buf)
+    × Consumes (g.R.Read.remaining l.initial.reader) (g.R.Read.remaining l.reader) (take l.size l.buf)
 
 abbrev pub decreases-loop-size : goal.decreases-loop-size
-decreases-loop-size l = length l.buf - l.size
+decreases-loop-size g l = length l.buf - l.size
