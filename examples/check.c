@@ -1,7 +1,7 @@
 /* Checks a script before the cell is switched on: check < script
  *
- * Build the library first (rt staticlib capi), then for example:
- *     cc -Iinclude examples/check.c target/staticlib/libcapi.a -o check
+ * Build the library first (rt lib in crates/capi), then for example:
+ *     cc -Iinclude examples/check.c crates/capi/out/libcapi.a -o check
  *
  * Status 0, or 1 where the script is refused, or 2 where it is called wrongly, or where reading or writing fails.
  */

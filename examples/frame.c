@@ -3,8 +3,8 @@
  * The number is two upper-case hex digits, as they stand in the line: the host's number of a line that is written, the
  * instrument's that is expected of one that is read. A line is written with its newline, and read with it or without.
  *
- * Build the library first (rt staticlib capi), then for example:
- *     cc -Iinclude examples/frame.c target/staticlib/libcapi.a -o frame
+ * Build the library first (rt lib in crates/capi), then for example:
+ *     cc -Iinclude examples/frame.c crates/capi/out/libcapi.a -o frame
  *
  * Status 0, or 1 where the content or the line is refused, or 2 where it is called wrongly, or where reading or writing
  * fails.

@@ -1,7 +1,7 @@
 /* Prints one row of a reply: row NUMBER < reply
  *
- * Build the library first (rt staticlib capi), then for example:
- *     cc -Iinclude examples/row.c target/staticlib/libcapi.a -o row
+ * Build the library first (rt lib in crates/capi), then for example:
+ *     cc -Iinclude examples/row.c crates/capi/out/libcapi.a -o row
  *
  * Status 0, or 1 where the reply is refused or has no such row, or 2 where it is called wrongly, or where reading or
  * writing fails.

@@ -1,7 +1,7 @@
 /* Lists all rows of a reply: rows < reply
  *
- * Build the library first (rt staticlib capi), then for example:
- *     cc -Iinclude examples/rows.c target/staticlib/libcapi.a -o rows
+ * Build the library first (rt lib in crates/capi), then for example:
+ *     cc -Iinclude examples/rows.c crates/capi/out/libcapi.a -o rows
  *
  * Status 0, or 1 where the reply is refused, or 2 where it is called wrongly, or where reading or writing fails.
  */
