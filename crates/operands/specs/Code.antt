@@ -3,28 +3,19 @@
 use Rattle.std.specs.Prelude.{ℕ, cond, ltb, pos}
 use Rattle.value.specs.declared.Value.TheVariants as Value
 use Rattle.table.specs.declared.Act.{Act}
-use Rattle.table.specs.declared.Act.TheVariants as Act
 use Rattle.table.specs.declared.Branch.{Branch}
-use Rattle.table.specs.declared.Branch.TheVariants as Branch
-use Rattle.table.specs.declared.Close.{Close}
 use Rattle.table.specs.declared.Condition.{Condition}
 use Rattle.table.specs.declared.Head.{Head}
-use Rattle.table.specs.declared.Head.TheVariants as Head
 use Rattle.table.specs.declared.Item.{Item}
-use Rattle.table.specs.declared.Item.TheVariants as Item
 use Rattle.table.specs.declared.Operand.{Operand}
-use Rattle.table.specs.declared.Operand.TheVariants as Operand
 use Rattle.table.specs.declared.Pack.{Pack}
-use Rattle.table.specs.declared.Pack.TheVariants as Pack
 use Rattle.table.specs.declared.Sweep.{Sweep}
 use Rattle.state.specs.declared.Cell.{Cell}
-use Rattle.state.specs.declared.Cell.TheVariants as Cell
 use Rattle.state.specs.declared.Var.{Var}
 use Rattle.operands.specs.declared.Cells.{Cells}
 use Rattle.operands.specs.declared.Operands.{Operands}
 use Rattle.operands.specs.declared.Places.{Places}
 use Rattle.operands.specs.declared.Written.{Written}
-use Rattle.operands.specs.declared.Written.TheVariants as Written
 
 -- ---- src/reads.rt: what an item reads; past the last operand a literal 0
 

@@ -25,7 +25,6 @@ use Rattle.thing_text.specs.Read.{read_value, read_amount, part_of, range_of}
 use Rattle.thing_text.specs.Read.{read_thing, SoundValue, Sound, ReadsBack}
 use Rattle.thing_text.specs.Thing.{amount_text, text_of, refused, accepted, leaves, write}
 use Rattle.thing_text.specs.Thing.{whole_text, hex16, value_text}
-use Rattle.value.specs.declared.Value.TheVariants as Value
 use Rattle.value.specs.declared.Value.{Value}
 
 -- ---- numbers

@@ -5,7 +5,6 @@ use Prim.Native.Nat.{ℕ}
 use Rattle.state.specs.declared.Thing.{Thing}
 use Rattle.state.specs.Meaning.{out_of}
 use Rattle.thing_text.specs.Answer.{number_of, meaning, leaves_by}
-use Rattle.thing_text.specs.declared.Put.TheVariants as Put
 use Rattle.thing_text.specs.declared.Put.{Put}
 use Rattle.thing_text.specs.Thing.{text_of, Answer, refused, accepted, leaves, write}
 

@@ -1,6 +1,5 @@
 -- 01, the table of numbers, 5: the number of each answer of the code, and what the answer says. Assumes nothing.
 use Rattle.std.specs.Prelude.{List, ℕ}
-use Rattle.thing_text.specs.declared.Put.TheVariants as Put
 use Rattle.thing_text.specs.declared.Put.{Put}
 use Rattle.thing_text.specs.Thing.{Answer, refused, accepted, Written, leaves}
 

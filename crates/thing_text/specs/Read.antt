@@ -7,11 +7,9 @@ use Rattle.state.specs.State.{Out, nought, enters, leaves, packStart, packEnd, p
 use Rattle.state.specs.State.{switches_cell}
 use Rattle.text.specs.Bytes.{ascii}
 use Rattle.text.specs.Decimal.{digit_run, number}
-use Rattle.text.specs.declared.Hex.TheVariants as Hex
 use Rattle.text.specs.declared.Hex.{Hex}
 use Rattle.text.specs.Hex.{hex_from}
 use Rattle.thing_text.specs.Thing.{text_of}
-use Rattle.value.specs.declared.Value.TheVariants as Value
 use Rattle.value.specs.declared.Value.{Value}
 
 -- ---- numbers

@@ -4,7 +4,6 @@
 use Rattle.std.specs.Prelude.{ltb, ℤ, pos, negsuc, nat_abs, length, Bool, true, false, cond, List, [], ◌++◌, ℕ, ◌/◌, ◌%◌}
 use Rattle.std.specs.Float.{binary64}
 use Rattle.std.specs.Float.Ieee.{to_bits}
-use Rattle.state.specs.declared.LoopSort.TheVariants as LoopSort
 use Rattle.state.specs.declared.LoopSort.{LoopSort}
 use Rattle.state.specs.State.{Out, nought, enters, leaves as leavesLoop, packStart, packEnd, pack_part, says, waits}
 use Rattle.state.specs.State.{setsE, sets_mode, switches_cell}
@@ -12,7 +11,6 @@ use Rattle.text.specs.Bytes.{ascii}
 use Rattle.text.specs.Decimal.{decimal}
 use Rattle.text.specs.Hex.{hex4}
 use Rattle.text.specs.Put.{put}
-use Rattle.value.specs.declared.Value.TheVariants as Value
 use Rattle.value.specs.declared.Value.{Value}
 
 -- ---- numbers

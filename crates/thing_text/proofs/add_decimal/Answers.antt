@@ -21,5 +21,5 @@ pub returns : goal.returns
 returns c =
     let held = holds c.args.n c.ranges.n.fits c.decimal_of-digits.ensures in
     let added : Adds c.args.w (decimal c.args.n) c.add_word.result =
-      adds_as (λ (vs : List ℕ). vs) (sym held.part) c.add_word.ensures in
+    adds_as (λ (vs : List ℕ). vs) (sym held.part) c.add_word.ensures in
     (added, omega (arith, added.count, few_digits _ c.ranges.n.fits))
