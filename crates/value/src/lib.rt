@@ -277,6 +277,7 @@ fn quotient(a: i32, b: i32) -> i32
     narrowed(wide(a) / wide(b))
 }
 
+#[tactic(auto, using(crate::proofs::Wrap::word_of_zero, crate::proofs::Wrap::gave_quotient))]
 fn calculate_wholes(by: Operation, a: i32, b: i32) -> Calculated
     ensures { result ≡ wholes by a b }
 {

@@ -2,25 +2,11 @@
 use borrow.Author.Rules.{rules}
 use mathlib.Core.Path.{refl}
 use Prim.Native.Nat.{◌-◌}
-use Rattle.text.proofs.Cut.{passed, ran_out, there}
+use Rattle.text.proofs.Cut.{ran_out}
 use Rattle.text.proofs.next_byte.Goals as goal
 
 pub loop-i-init : goal.loop-i-init
 loop-i-init c = record { within = search rules; same = refl }
-
-pub returns-then-s-i : goal.returns-then-s-i
-returns-then-s-i c =
-    record {
-      is = there _ _ _ (search rules) c.if-s-i.true c.loop-i.invariant.same;
-      within = search rules;
-    }
-
-pub loop-i-preserved : goal.loop-i-preserved
-loop-i-preserved c =
-    record {
-      within = search rules;
-      same = passed _ _ _ (search rules) c.if-s-i.false c.loop-i.invariant.same;
-    }
 
 pub returns : goal.returns
 returns c =
