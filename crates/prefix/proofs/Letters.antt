@@ -6,7 +6,6 @@ use mathlib.Core.Bool.{cond}
 use mathlib.Core.List.{List}
 use mathlib.Core.Path.{◌≡◌, refl, ◌∙◌}
 use Prim.Native.Nat.{ℕ}
-use Rattle.prefix.specs.declared.Prefix.TheVariants as Prefix
 use Rattle.prefix.specs.declared.Prefix.{Prefix}
 use Rattle.prefix.specs.Prefix.{in_steps, prefix_of}
 use Rattle.text.proofs.Keys.{Apart, also, back, front, none}

@@ -11,11 +11,8 @@ use Rattle.laws.proofs.Bools.{and_l, and_r}
 use Rattle.table.specs.ReadWrite.{Names, has, gone, missing}
 use Rattle.table.specs.Shape.{operand_ok, reads_ok}
 use Rattle.table.specs.declared.Operand.{Operand}
-use Rattle.table.specs.declared.Operand.TheVariants as Operand
 use Rattle.table.specs.declared.Read.{Read}
-use Rattle.table.specs.declared.Read.TheVariants as Read
 use Rattle.table.specs.declared.Write.{Write}
-use Rattle.table.specs.declared.Write.TheVariants as Write
 use Rattle.sets.specs.Names.{nothing, either, outside, ask, asks, put}
 
 -- ---- written

@@ -2,11 +2,8 @@
 use Rattle.std.specs.Prelude.{ℕ, zero, suc, ◌/◌, ◌%◌, Bool, true, false, not, ◌&&◌, ◌||◌, List, [], ◌∷◌, eqb, set, replicate}
 use Rattle.table.specs.ReadWrite.{Names}
 use Rattle.table.specs.declared.Operand.{Operand}
-use Rattle.table.specs.declared.Operand.TheVariants as Operand
 use Rattle.table.specs.declared.Read.{Read}
-use Rattle.table.specs.declared.Read.TheVariants as Read
 use Rattle.table.specs.declared.Write.{Write}
-use Rattle.table.specs.declared.Write.TheVariants as Write
 
 abbrev pub nothing : Names
 nothing = replicate 32 false

@@ -17,7 +17,6 @@ use Rattle.text.proofs.Every.{at_each, every}
 use Rattle.text.proofs.Ranges.{mark_byte}
 use Rattle.text.specs.Bytes.{byte, digit}
 use Rattle.text.specs.Code.{apart, capital, in_each, is_hex, mark, of_each, weighed, worth}
-use Rattle.text.specs.declared.Hex.TheVariants as Hex
 use Rattle.text.specs.declared.Hex.{Hex}
 use Rattle.text.specs.Hex.{digit_value, hex_from, read_hex}
 

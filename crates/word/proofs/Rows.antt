@@ -9,7 +9,6 @@ use native.Mathlib.Omega.{arith}
 use lib.Dec.{ltb}
 use lib.ListN.{length, take, drop, get_or, set, replicate, drop_of_length-le, length-set}
 use lib.Seq.{drop-cons, take_all, take-length, length-take-le, set_at, take-suc, append_snoc}
-use Rattle.word.specs.declared.Found.TheVariants as Found
 use Rattle.word.specs.declared.Found.{Found}
 use Rattle.word.specs.Word.{padded, same_bytes, place}
 

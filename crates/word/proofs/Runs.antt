@@ -9,7 +9,6 @@ use lib.Dec.{eqb, leb}
 use lib.ListN.{length, take, drop, get_or, drop_of_length-le, length-drop}
 use lib.Seq.{drop-cons, take_all, take-nil}
 use borrow.Author.Tests.{eq-eqb, ne_eqb, leb-true, leb-false}
-use Rattle.word.specs.declared.Class.TheVariants as Class
 use Rattle.word.specs.declared.Class.{Class}
 use Rattle.word.specs.declared.Span.{Span}
 use Rattle.word.specs.Word.{in_class, run, word_at, skipped}

@@ -2,14 +2,10 @@
 use Rattle.std.specs.Prelude.{leb, eqb, length, take, drop, get_or, replicate, Bool, true, false, not, ◌&&◌, ◌||◌, cond, List, [], ◌∷◌, ◌++◌, ℕ, suc, ◌+◌, ◌-◌, ◌*◌}
 use Rattle.text.specs.Bytes.{byte, blank, lower, starts, name_byte}
 use Rattle.text.specs.Decimal.{digit_run, number}
-use Rattle.word.specs.declared.Class.TheVariants as Class
 use Rattle.word.specs.declared.Class.{Class}
-use Rattle.word.specs.declared.Found.TheVariants as Found
 use Rattle.word.specs.declared.Found.{Found}
-use Rattle.word.specs.declared.Small.TheVariants as Small
 use Rattle.word.specs.declared.Small.{Small}
 use Rattle.word.specs.declared.Span.{Span}
-use Rattle.word.specs.declared.TypeName.TheVariants as TypeName
 use Rattle.word.specs.declared.TypeName.{TypeName}
 
 unfoldable pub in_class : Class → ℕ → Bool

@@ -1,13 +1,10 @@
 -- `package::judge_package` reads the parts one by one: the verdict still to come is the whole's. Assumes nothing.
 use borrow.Author.Rules.{rules}
 use borrow.Author.Tests.{eq-eqb, le-leb, lt-leb, ne_eqb}
-use mathlib.Core.List.{List}
 use mathlib.Core.Path.{◌≡◌, sym, ◌∙◌, ap}
 use native.Mathlib.Omega.{arith}
-use Prim.Native.Nat.{ℕ, ◌-◌}
 use Rattle.package.proofs.Packages.{last_part, more_parts, same_verdict, too_many, wrong_part}
 use Rattle.package.proofs.Packages.{Round, ends_within, part_read}
-use Rattle.package.specs.declared.ReadPart.TheVariants as ReadPart
 use Rattle.package.specs.declared.ReadPart.{ReadPart}
 use Rattle.package.specs.Package.{meaning, number_of, package_of, verdict_of}
 use Rattle.package.proofs.judge_package.Goals as goal

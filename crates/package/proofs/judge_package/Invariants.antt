@@ -4,7 +4,6 @@ use mathlib.Core.List.{List}
 use mathlib.Core.Path.{◌≡◌}
 use Prim.Native.Nat.{ℕ, ◌-◌, ◌≤◌}
 use Rattle.package.proofs.Packages.{from}
-use Rattle.package.specs.declared.ReadPart.TheVariants as ReadPart
 use Rattle.package.specs.Package.{package_of, parts_from, verdict_of}
 use Rattle.package.proofs.judge_package.Given as goal
 

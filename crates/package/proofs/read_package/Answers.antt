@@ -2,14 +2,10 @@
 -- Assumes nothing.
 use borrow.Author.Rules.{rules}
 use borrow.Author.Tests.{eq-eqb, le-leb, lt-leb, ne_eqb}
-use mathlib.Core.List.{List}
 use mathlib.Core.Path.{◌≡◌, sym, ◌∙◌, ap}
 use native.Mathlib.Omega.{arith}
-use Prim.Native.Nat.{ℕ, ◌-◌}
 use Rattle.package.proofs.Packages.{last_part, more_parts, takes_place, too_many, wrong_part}
 use Rattle.package.proofs.Packages.{Round, ends_within, from, part_read}
-use Rattle.package.specs.declared.Part.{Part}
-use Rattle.package.specs.declared.ReadPart.TheVariants as ReadPart
 use Rattle.package.specs.declared.ReadPart.{ReadPart}
 use Rattle.package.specs.Package.{meaning, number_of, package_meaning}
 use Rattle.package.specs.Package.{Reading, content_from, content_of, package_of, parts_from, placed}

@@ -6,7 +6,6 @@ use mathlib.Core.Path.{◌≡◌}
 use Prim.Native.Nat.{ℕ, ◌-◌, ◌≤◌}
 use Rattle.package.proofs.Packages.{from}
 use Rattle.package.specs.declared.Part.{Part}
-use Rattle.package.specs.declared.ReadPart.TheVariants as ReadPart
 use Rattle.package.specs.Package.{content_from, content_of, package_of, parts_from}
 use Rattle.package.proofs.read_package.Given as goal
 

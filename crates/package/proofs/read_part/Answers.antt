@@ -1,15 +1,14 @@
 -- `package::read_part`: the letters, the metadata one after the other, the end, then the amount. Assumes nothing.
 use borrow.Author.Rules.{rules}
-use borrow.Author.Tests.{le-leb, lt-leb, not-false, not-true}
-use lib.ListN.{get_or, length}
-use mathlib.Core.Bool.{true}
-use mathlib.Core.Path.{◌≡◌, sym, ◌∙◌}
+use borrow.Author.Tests.{le-leb, lt-leb}
+use lib.ListN.{length}
+use mathlib.Core.Path.{sym, ◌∙◌}
 use native.Mathlib.Omega.{arith}
 use Prim.Native.Nat.{◌≤◌}
 use Rattle.package.proofs.Metadata.{past_few, past_within}
 use Rattle.package.proofs.Parts.{Lettered, Read, left_over, no_amount, whole_part}
 use Rattle.package.specs.Package.{part_of}
-use Rattle.text.specs.Bytes.{byte, lower}
+use Rattle.text.specs.Bytes.{byte}
 use Rattle.package.proofs.read_part.Goals as goal
 use Rattle.package.proofs.read_part.Goals.{After-past_it-a, After-past_it-b, After-past_it-e, Else-not-is_lower}
 

@@ -3,7 +3,7 @@ use borrow.Author.Tests.{not-false, not-true}
 use lib.ListN.{get_or}
 use mathlib.Core.Bool.{true}
 use mathlib.Core.Path.{◌≡◌, ◌∙◌, sym}
-use Prim.Native.Nat.{ℕ, ◌-◌}
+use Prim.Native.Nat.{ℕ}
 use Rattle.text.proofs.Decimals.{begun, digit_fits, read_end, read_more, read_stop}
 use Rattle.text.specs.Bytes.{digit}
 use mathlib.Core.Path.{ap}

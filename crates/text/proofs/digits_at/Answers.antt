@@ -1,6 +1,5 @@
 -- `text::digits_at` reads the digits from the first to the last. Assumes nothing.
 use native.Mathlib.Omega.{arith}
-use Prim.Native.Nat.{◌-◌}
 use Rattle.text.proofs.Digits.{Turn, done, few_bits, good, no_digit, start}
 use Rattle.text.proofs.digits_at.Goals as goal
 use Rattle.text.proofs.digits_at.Goals.{After-digit_value-d}

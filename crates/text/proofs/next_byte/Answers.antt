@@ -1,7 +1,6 @@
 -- `text::next_byte` goes on until the byte is there. Assumes nothing.
 use borrow.Author.Rules.{rules}
 use mathlib.Core.Path.{refl}
-use Prim.Native.Nat.{◌-◌}
 use Rattle.text.proofs.Cut.{ran_out}
 use Rattle.text.proofs.next_byte.Goals as goal
 

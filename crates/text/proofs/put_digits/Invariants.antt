@@ -1,5 +1,4 @@
 -- `text::put_digits` puts the digits from the last to the first. Assumes nothing.
-use Prim.Native.Nat.{◌-◌}
 use Rattle.text.proofs.Put.{Putting}
 use Rattle.text.proofs.put_digits.Given as goal
 

@@ -6,7 +6,6 @@ use Rattle.prefix.specs.Prefix.{in_steps, prefix_of}
 use Rattle.text.proofs.Keys.{apart}
 use Rattle.text.specs.Bytes.{ascii, byte}
 use Rattle.value.proofs.Literals.{Power, by_power, no_letter, powers}
-use Rattle.value.specs.declared.Literal.TheVariants as Literal
 use Rattle.value.specs.declared.Literal.{Literal}
 use Rattle.value.specs.declared.Value.TheVariants as Value
 use Rattle.value.specs.Literal.{lettered, over, times}

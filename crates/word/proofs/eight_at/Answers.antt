@@ -1,7 +1,6 @@
 -- `word::eight_at` gathers eight bytes of a row, the last one first. Assumes nothing.
 use borrow.Author.Rules.{rules}
 use native.Mathlib.Omega.{arith}
-use Prim.Native.Nat.{◌-◌}
 use Rattle.word.proofs.Keyed.{none_yet, gathered_one, gathered}
 use Rattle.word.proofs.eight_at.Goals as goal
 

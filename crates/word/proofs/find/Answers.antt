@@ -4,7 +4,7 @@ use lib.ListN.{get_or, length}
 use mathlib.Core.Bool.{Bool}
 use mathlib.Core.List.{List, []}
 use mathlib.Core.Path.{◌≡◌, refl, sym, ◌∙◌}
-use Prim.Native.Nat.{ℕ, ◌-◌, ◌<◌}
+use Prim.Native.Nat.{ℕ, ◌<◌}
 use Rattle.word.proofs.Keyed.{same_rows}
 use Rattle.word.proofs.Rows.{Seeking, passed, found, not_found}
 use Rattle.word.specs.Code.{KeyOf}

@@ -1,10 +1,9 @@
 -- `word::find` goes row by row, with whatever row the key is of. Assumes nothing.
 use lib.ListN.{length}
-use mathlib.Core.List.{List, []}
+use mathlib.Core.List.{List}
 use Prim.Native.Nat.{ℕ, ◌-◌}
 use Rattle.word.proofs.Rows.{Seeking}
 use Rattle.word.specs.Code.{KeyOf}
-use Rattle.word.specs.declared.Key.{Key}
 use Rattle.word.proofs.find.Given as goal
 
 abbrev pub invariant-loop-i : goal.invariant-loop-i

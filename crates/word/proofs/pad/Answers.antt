@@ -1,8 +1,6 @@
 -- `word::pad` lays byte by byte over spaces. Assumes nothing.
-use lib.ListN.{length}
 use mathlib.Core.Path.{refl}
 use native.Mathlib.Omega.{arith}
-use Prim.Native.Nat.{◌-◌, ◌<◌}
 use Rattle.word.proofs.Rows.{put, filled_up}
 use Rattle.word.proofs.pad.Goals as goal
 

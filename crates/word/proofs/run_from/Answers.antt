@@ -1,7 +1,6 @@
 -- `word::run_from` goes byte by byte. Assumes nothing.
 use borrow.Author.Tests.{not-true, not-false}
 use mathlib.Core.Path.{refl, sym, ◌∙◌}
-use Prim.Native.Nat.{◌-◌}
 use Rattle.word.proofs.Runs.{goes_on, stops, ends}
 use mathlib.Core.Path.{ap}
 use mathlib.Core.Bool.{not}
