@@ -232,12 +232,10 @@ module _ {names size : ℕ} {items : List Item} (ok : Accepted names size items)
         let r' : Reach items i (state su (b ∷ bs) false tg) k (Item.Branch (Branch.ElseIf c) ∷ xs) =
         rw (clean ok r).packed at r in
         let rest = choose_good xs {b = branched_box (Branch.ElseIf c) b su} (more r') here refl f g in
-        let pick : (h : Bool)
-        → Picks items b.at b.before bs
-        (cond h (into (suc i)) (choose vs b.at (suc i) (erase (b ∷ bs)) xs)) =
-        λ h. elim h [ true ↦ goes (more r') refl refl | false ↦ rest ] in
         rw (f, eq-eqb b.at b.at refl, g (condition_reads c) (rw f at (clean ok r).there) (clean ok r).kinds)
-        (pick (holds vs c))
+        (elim (holds vs c)
+        as (λ h. Picks items b.at b.before bs (cond h (into (suc i)) (choose vs b.at (suc i) (erase (b ∷ bs)) xs)))
+        [ true ↦ goes (more r') refl refl | false ↦ rest ])
     choose_good (Item.Branch Branch.Else ∷ xs) {i} {su} {p = p} {tg = tg} {k = k} {b = b} {bs = bs} r here e f g =
         let r' : Reach items i (state su (b ∷ bs) false tg) k (Item.Branch Branch.Else ∷ xs) =
         rw (clean ok r).packed at r in
