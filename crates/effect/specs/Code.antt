@@ -7,59 +7,37 @@ use Rattle.table.specs.ReadWrite.{breaks_order}
 use Rattle.state.specs.State as rules
 use Rattle.state.specs.State.{cell_value, cell_type, measures, reading, da, ba, eb}
 use Rattle.value.specs.declared.Calculated.{Calculated}
-use Rattle.value.specs.declared.Calculated.TheVariants as Calculated
 use Rattle.value.specs.declared.Value.TheVariants as Value
 use Rattle.table.specs.declared.Act.{Act}
-use Rattle.table.specs.declared.Act.TheVariants as Act
 use Rattle.table.specs.declared.Branch.{Branch}
-use Rattle.table.specs.declared.Branch.TheVariants as Branch
 use Rattle.table.specs.declared.Close.{Close}
-use Rattle.table.specs.declared.Close.TheVariants as Close
 use Rattle.table.specs.declared.Condition.{Condition}
 use Rattle.table.specs.declared.Head.{Head}
-use Rattle.table.specs.declared.Head.TheVariants as Head
 use Rattle.table.specs.declared.Item.{Item}
-use Rattle.table.specs.declared.Item.TheVariants as Item
 use Rattle.table.specs.declared.Pack.{Pack}
-use Rattle.table.specs.declared.Pack.TheVariants as Pack
 use Rattle.table.specs.declared.Sweep.{Sweep}
 use Rattle.state.specs.declared.Answer.{Answer}
-use Rattle.state.specs.declared.Answer.TheVariants as Answer
 use Rattle.state.specs.declared.Cell.{Cell}
-use Rattle.state.specs.declared.Cell.TheVariants as Cell
 use Rattle.state.specs.declared.Control.{Control}
-use Rattle.state.specs.declared.Control.TheVariants as Control
 use Rattle.state.specs.declared.Fault.{Fault}
-use Rattle.state.specs.declared.Fault.TheVariants as Fault
 use Rattle.state.specs.declared.LoopSort.{LoopSort}
-use Rattle.state.specs.declared.LoopSort.TheVariants as LoopSort
 use Rattle.state.specs.declared.Offer.{Offer}
-use Rattle.state.specs.declared.Offer.TheVariants as Offer
 use Rattle.state.specs.declared.Order.TheVariants as Order
 use Rattle.state.specs.declared.Point.{Point}
 use Rattle.state.specs.declared.Refusal.TheVariants as Refusal
 use Rattle.state.specs.declared.Status.{Status}
-use Rattle.state.specs.declared.Status.TheVariants as Status
 use Rattle.state.specs.declared.Stop.{Stop}
-use Rattle.state.specs.declared.Stop.TheVariants as Stop
-use Rattle.state.specs.declared.Var.{Var}
 use Rattle.state.specs.declared.What.{What}
-use Rattle.state.specs.declared.What.TheVariants as What
 use Rattle.effect.specs.declared.Around.{Around}
 use Rattle.operands.specs.declared.Cells.{Cells}
 use Rattle.effect.specs.declared.Chosen.{Chosen}
-use Rattle.effect.specs.declared.Chosen.TheVariants as Chosen
 use Rattle.effect.specs.declared.Effect.{Effect}
 use Rattle.effect.specs.declared.Looked.{Looked}
 use Rattle.effect.specs.declared.Need.{Need}
-use Rattle.effect.specs.declared.Need.TheVariants as Need
 use Rattle.effect.specs.declared.Spot.{Spot}
 use Rattle.effect.specs.declared.Tried.{Tried}
-use Rattle.effect.specs.declared.Tried.TheVariants as Tried
 use Rattle.effect.specs.declared.Trouble.{Trouble}
-use Rattle.effect.specs.declared.Trouble.TheVariants as Trouble
 use Rattle.operands.specs.declared.Written.{Written}
-use Rattle.operands.specs.declared.Written.TheVariants as Written
 
 -- ---- src/spots.rt: the spot anew
 

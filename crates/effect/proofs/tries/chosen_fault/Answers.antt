@@ -1,4 +1,0 @@
-use Rattle.effect.proofs.tries.chosen_fault.Goals as goal
-
-pub returns-in-Bad : goal.returns-in-Bad
-returns-in-Bad c = simp c.in-Bad.is
