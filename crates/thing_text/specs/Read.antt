@@ -1,5 +1,6 @@
 -- The text tells the thing: a reader of the texts, which gives each thing back (proofs/ReadBack.antt). Assumes nothing.
-use Rattle.std.specs.Prelude.{eqb, T, ℤ, pos, negsuc, take, drop, true, false, cond, List, [], ◌∷◌, ◌≡◌, ℕ, zero, suc, ◌+◌, ◌*◌, ◌<◌}
+use Rattle.std.specs.Prelude.{eqb, T, ℤ, pos, negsuc, true, false, cond, ◌≡◌, ℕ, zero, suc, ◌+◌, ◌*◌, ◌<◌}
+use Rattle.std.specs.Prelude.{List, [], ◌∷◌, take, drop}
 use Rattle.std.specs.Float.{binary64}
 use Rattle.std.specs.Float.Ieee.{fits, of_bits}
 use Rattle.state.specs.declared.LoopSort.TheVariants as LoopSort
@@ -38,7 +39,8 @@ abbrev pub read_hex4 : List ℕ → ℕ
 read_hex4 s = hex_value (hex_from 0 (take 4 s))
 
 abbrev pub read_hex16 : List ℕ → ℕ
-read_hex16 s = ((read_hex4 s * 65536 + read_hex4 (drop 4 s)) * 65536 + read_hex4 (drop 8 s)) * 65536 + read_hex4 (drop 12 s)
+read_hex16 s =
+    ((read_hex4 s * 65536 + read_hex4 (drop 4 s)) * 65536 + read_hex4 (drop 8 s)) * 65536 + read_hex4 (drop 12 s)
 
 -- behind `i` a whole number, behind `f` a float
 abbrev pub read_value : List ℕ → Value

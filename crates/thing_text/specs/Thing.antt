@@ -1,7 +1,8 @@
 -- The text of each thing that a step hands out (01, The machine): `M0000` or `L` when a loop is entered, `*` or `+`
 -- when it is left, a package's start, part or end, a text, an order, or nothing. What a thing carries stands behind its
 -- word, each part behind a colon. Assumes nothing.
-use Rattle.std.specs.Prelude.{ltb, ℤ, pos, negsuc, nat_abs, length, Bool, true, false, cond, List, [], ◌++◌, ℕ, ◌/◌, ◌%◌}
+use Rattle.std.specs.Prelude.{ltb, ℤ, pos, negsuc, nat_abs, Bool, true, false, cond, ℕ, ◌/◌, ◌%◌}
+use Rattle.std.specs.Prelude.{List, [], ◌++◌, length}
 use Rattle.std.specs.Float.{binary64}
 use Rattle.std.specs.Float.Ieee.{to_bits}
 use Rattle.state.specs.declared.LoopSort.{LoopSort}
