@@ -1,5 +1,6 @@
 -- Sets of names, one flag for each of the 32, and the words whose bits they are.
-use Rattle.std.specs.Prelude.{ℕ, zero, suc, ◌/◌, ◌%◌, Bool, true, false, not, ◌&&◌, ◌||◌, List, [], ◌∷◌, eqb, set, replicate}
+use Rattle.std.specs.Prelude.{ℕ, zero, suc, ◌/◌, ◌%◌, Bool, true, false, not, ◌&&◌, ◌||◌, List, [], ◌∷◌, eqb, set}
+use Rattle.std.specs.Prelude.{replicate}
 use Rattle.table.specs.ReadWrite.{Names}
 use Rattle.table.specs.declared.Operand.{Operand}
 use Rattle.table.specs.declared.Read.{Read}

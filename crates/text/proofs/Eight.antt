@@ -225,7 +225,8 @@ module _ (s : List ℕ) (at : ℕ) where
       ∙ sym (rw (add-zero at) at (read_placed s at 4 (omega arith) h))
 
   pub seven_read : {r : Hex} {n m w : ℕ} → at + 7 ≤ length s → ReadBoth r n m w
-      → apart 4 n ≡ byte "0" ∷ get_or s at 0 ∷ c 1 ∷ c 2 ∷ [] → apart 4 m ≡ c 3 ∷ c 4 ∷ c 5 ∷ c 6 ∷ [] → r ≡ read_hex 7 s at
+      → apart 4 n ≡ byte "0" ∷ get_or s at 0 ∷ c 1 ∷ c 2 ∷ [] → apart 4 m ≡ c 3 ∷ c 4 ∷ c 5 ∷ c 6 ∷ []
+      → r ≡ read_hex 7 s at
   unfolding places
   seven_read h b e f =
       b.number ∙ ap (hex_from 0) (b.both ∙ rw (e, f) refl) ∙ zero_front _

@@ -1,5 +1,6 @@
 -- Decimal numbers as digits, out and in. Assumes nothing.
-use Rattle.std.specs.Prelude.{leb, ltb, length, drop, replicate, ◌&&◌, cond, List, [], ◌∷◌, ◌++◌, ℕ, zero, suc, min, ◌+◌, ◌-◌, ◌*◌, ◌/◌, ◌%◌, ◌^◌}
+use Rattle.std.specs.Prelude.{leb, ltb, length, drop, replicate, ◌&&◌, cond, List, [], ◌∷◌, ◌++◌, ℕ, zero, suc, min}
+use Rattle.std.specs.Prelude.{◌+◌, ◌-◌, ◌*◌, ◌/◌, ◌%◌, ◌^◌}
 use Rattle.text.specs.Bytes.{byte}
 use Rattle.text.specs.declared.Decimal.{Decimal}
 use Rattle.text.specs.declared.Number.{Number}

@@ -1,7 +1,8 @@
 // Values: whole numbers and floats, literals, arithmetic and comparison.
 #![tactic(auto)]
 
-ghost use Rattle.std.specs.Prelude.{◌≡◌, ◌+◌, ◌%◌, ◌^◌, ◌<◌, ◌≤◌, length, drop, pos, ◌+ℤ◌, ◌-ℤ◌, ◌*ℤ◌, neg_ℤ, if◌then◌else◌, int_div, int_rem, nat_lt, to_bits, unsigned_abs};
+ghost use Rattle.std.specs.Prelude.{◌≡◌, ◌+◌, ◌%◌, ◌^◌, ◌<◌, ◌≤◌, length, drop, pos, ◌+ℤ◌, ◌-ℤ◌, ◌*ℤ◌, neg_ℤ};
+ghost use Rattle.std.specs.Prelude.{if◌then◌else◌, int_div, int_rem, nat_lt, to_bits, unsigned_abs};
 ghost use Rattle.std.specs.Float.{binary64};
 ghost use Rattle.std.specs.Int.Signed.{mag};
 ghost use Rattle.value.specs.Arithmetic.{rest, signed_word, wrap, wholes, is_zero, reals, checked, is_finite};

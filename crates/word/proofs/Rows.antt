@@ -76,7 +76,8 @@ place_next : (rows : List (List ℕ)) (i : ℕ) (key : List ℕ) → i < length 
     ≡ cond (same_bytes (get_or rows i []) key) (Found.At i) (place (i + 1) (drop (i + 1) rows) key)
 unfolding place
 place_next rows i key h =
-    let past : ℕ → Found = λ n. cond (same_bytes (get_or rows i []) key) (Found.At i) (place (i + 1) (drop n rows) key) in
+    let past : ℕ → Found =
+    λ n. cond (same_bytes (get_or rows i []) key) (Found.At i) (place (i + 1) (drop n rows) key) in
     rw (drop-cons rows i [] h) (ap past (sym (add-one i)))
 
 pub passed : {rows : List (List ℕ)} {key : List ℕ} {i : ℕ} → Seeking rows key i → i < length rows

@@ -1,5 +1,6 @@
 -- What only the code's shape needs: rows as numbers of eight bytes.
-use Rattle.std.specs.Prelude.{eqb, length, take, drop, replicate, Bool, ◌&&◌, List, [], ◌∷◌, ◌++◌, ◌≡◌, ℕ, ◌+◌, ◌*◌, ◌%◌, ◌^◌, ◌<◌}
+use Rattle.std.specs.Prelude.{eqb, length, take, drop, replicate, Bool, ◌&&◌, List, [], ◌∷◌, ◌++◌, ◌≡◌, ℕ, ◌+◌, ◌*◌}
+use Rattle.std.specs.Prelude.{◌%◌, ◌^◌, ◌<◌}
 use Rattle.text.specs.Bytes.{byte}
 use Rattle.word.specs.declared.Found.{Found}
 use Rattle.word.specs.declared.Key.{Key}

@@ -1,5 +1,6 @@
 -- 01, "Script text": words, names, types, the small numbers n, and words of a table.
-use Rattle.std.specs.Prelude.{leb, eqb, length, take, drop, get_or, replicate, Bool, true, false, not, ◌&&◌, ◌||◌, cond, List, [], ◌∷◌, ◌++◌, ℕ, suc, ◌+◌, ◌-◌, ◌*◌}
+use Rattle.std.specs.Prelude.{leb, eqb, length, take, drop, get_or, replicate, Bool, true, false, not, ◌&&◌, ◌||◌, cond}
+use Rattle.std.specs.Prelude.{List, [], ◌∷◌, ◌++◌, ℕ, suc, ◌+◌, ◌-◌, ◌*◌}
 use Rattle.text.specs.Bytes.{byte, blank, lower, starts, name_byte}
 use Rattle.text.specs.Decimal.{digit_run, number}
 use Rattle.word.specs.declared.Class.{Class}
@@ -38,7 +39,8 @@ skipped s = eqb (run Class.Blank s) (length s) || eqb (get_or s (run Class.Blank
 
 -- up to 16 bytes: a letter or underscore, then letters, digits, underscores
 unfoldable pub name_form : List ℕ → Bool
-name_form w = leb 1 (length w) && (leb (length w) 16 && (starts (get_or w 0 0) && eqb (run Class.NameByte w) (length w)))
+name_form w =
+    leb 1 (length w) && (leb (length w) 16 && (starts (get_or w 0 0) && eqb (run Class.NameByte w) (length w)))
 
 -- two lower-case letters, the first times 256 and the second
 unfoldable pub read_type : List ℕ → TypeName

@@ -40,23 +40,26 @@ slice_bounds-read_part-end c = omega (arith, c.next_byte-e.ensures.within, c.loo
 pub returns-in-Bad : goal.returns-in-Bad
 unfolding meaning number_of verdict_of
 returns-in-Bad c =
-    sym (ap verdict_of (wrong_part (read_as (goal.at.returns-in-Bad c).After-read_part _ c.in-Bad.is))) ∙ c.loop-k.invariant.same
+    sym (ap verdict_of (wrong_part (read_as (goal.at.returns-in-Bad c).After-read_part _ c.in-Bad.is)))
+    ∙ c.loop-k.invariant.same
 
 pub returns-then-e-s : goal.returns-then-e-s
 unfolding meaning number_of verdict_of
 returns-then-e-s c =
-    sym (ap verdict_of (last_part (read_as (goal.at.returns-then-e-s c).After-read_part _ c.in-Good.is) c.if-e-s.true)) ∙ c.loop-k.invariant.same
+    let good = read_as (goal.at.returns-then-e-s c).After-read_part _ c.in-Good.is in
+    sym (ap verdict_of (last_part good c.if-e-s.true)) ∙ c.loop-k.invariant.same
 
 pub loop-k-preserved : goal.loop-k-preserved
 loop-k-preserved c =
-    let next = more_parts (read_as (goal.at.loop-k-preserved c).After-read_part _ c.in-Good.is) c.if-e-s.false in
+    let good = read_as (goal.at.loop-k-preserved c).After-read_part _ c.in-Good.is in
+    let next = more_parts good c.if-e-s.false in
     record {
       few = search rules;
-      within = omega (arith, ends_within (read_as (goal.at.loop-k-preserved c).After-read_part _ c.in-Good.is), c.if-e-s.false);
+      within = omega (arith, ends_within good, c.if-e-s.false);
       same = sym (ap verdict_of next ∙ same_verdict _ _) ∙ c.loop-k.invariant.same;
     }
 
 pub returns : goal.returns
 unfolding meaning number_of verdict_of
 returns c =
-    sym (ap verdict_of (too_many c.loop-k.k c.loop-k.at (c.args.s.now) c.loop-k-test.false)) ∙ c.loop-k.invariant.same
+    sym (ap verdict_of (too_many c.loop-k.k c.loop-k.at c.args.s.now c.loop-k-test.false)) ∙ c.loop-k.invariant.same

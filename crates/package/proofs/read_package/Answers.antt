@@ -49,22 +49,29 @@ slice_bounds-read_part-end c = omega (arith, c.next_byte-e.ensures.within, c.loo
 pub returns-in-Bad : goal.returns-in-Bad
 unfolding content_from content_of number_of
 returns-in-Bad c =
-    c.refused-in-Bad.ensures ∙ so_far (goal.at.returns-in-Bad c).At-loop-k _ (wrong_part (read_as (goal.at.returns-in-Bad c).After-read_part _ c.in-Bad.is))
+    c.refused-in-Bad.ensures
+    ∙ so_far (goal.at.returns-in-Bad c).At-loop-k _
+    (wrong_part (read_as (goal.at.returns-in-Bad c).After-read_part _ c.in-Bad.is))
 
 pub returns-then-e-s : goal.returns-then-e-s
 unfolding package_meaning meaning content_from placed
 returns-then-e-s c =
-    so_far (goal.at.returns-then-e-s c).At-loop-k _ (last_part (read_as (goal.at.returns-then-e-s c).After-read_part _ c.in-Good.is) c.if-e-s.true)
+    let good = read_as (goal.at.returns-then-e-s c).After-read_part _ c.in-Good.is in
+    so_far (goal.at.returns-then-e-s c).At-loop-k _ (last_part good c.if-e-s.true)
 
 pub loop-k-preserved : goal.loop-k-preserved
 loop-k-preserved c =
+    let good = read_as (goal.at.loop-k-preserved c).After-read_part _ c.in-Good.is in
     record {
       few = search rules;
-      within = omega (arith, ends_within (read_as (goal.at.loop-k-preserved c).After-read_part _ c.in-Good.is), c.if-e-s.false);
-      same = sym (takes_place _ _ _ _) ∙ so_far (goal.at.loop-k-preserved c).At-loop-k _ (more_parts (read_as (goal.at.loop-k-preserved c).After-read_part _ c.in-Good.is) c.if-e-s.false);
+      within = omega (arith, ends_within good, c.if-e-s.false);
+      same =
+          sym (takes_place _ _ _ _)
+          ∙ so_far (goal.at.loop-k-preserved c).At-loop-k _ (more_parts good c.if-e-s.false);
     }
 
 pub returns : goal.returns
 unfolding content_from content_of number_of
 returns c =
-    c.refused-2.ensures ∙ so_far (goal.at.returns c).At-loop-k _ (too_many c.loop-k.k c.loop-k.at (c.args.s.now) c.loop-k-test.false)
+    c.refused-2.ensures
+    ∙ so_far (goal.at.returns c).At-loop-k _ (too_many c.loop-k.k c.loop-k.at c.args.s.now c.loop-k-test.false)

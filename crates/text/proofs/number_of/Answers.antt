@@ -1,10 +1,7 @@
 -- `text::number_of` judges eight digits at once, and weighs what they are worth. Assumes nothing.
-use borrow.Author.Tests.{not-false, not-true}
 use mathlib.Core.Path.{◌∙◌, sym}
 use native.Mathlib.Omega.{arith}
 use Rattle.text.proofs.Eight.{Weighed, reads, refuses, short, weighed_below}
-use mathlib.Core.Path.{ap}
-use mathlib.Core.Bool.{not}
 use Rattle.text.proofs.number_of.Goals as goal
 use Rattle.text.proofs.number_of.Goals.{After-weigh-2}
 
@@ -14,14 +11,14 @@ module _ (c : After-weigh-2) where
       c.weigh-2.result
   number =
       record {
-        digits = sym c.all_digits.ensures ∙ not-false _ (ap not c.if-not-all_digits.false);
+        digits = sym c.all_digits.ensures ∙ c.if-not-all_digits.false;
         worth = c.worths-worth.ensures;
         first = c.weigh.ensures;
         last = c.weigh-2.ensures;
       }
 
 pub returns-then-not-all_digits : goal.returns-then-not-all_digits
-returns-then-not-all_digits c = refuses _ (sym c.all_digits.ensures ∙ not-true _ (ap not c.if-not-all_digits.true))
+returns-then-not-all_digits c = refuses _ (sym c.all_digits.ensures ∙ c.if-not-all_digits.true)
 
 pub overflow_mul-number : goal.overflow_mul-number
 overflow_mul-number c = record { fits = omega (arith, c.weigh.ensures, weighed_below c.worths-worth.result) }

@@ -42,7 +42,8 @@ module _ (c : Start) where
 pub returns-in-105 : goal.returns-in-105
 unfolding lettered prefix_of in_steps
 returns-in-105 c =
-    ap (λ (x : ℤ). Literal.Value (Value.Whole x) (c.args.at + 1)) (to_z-of_z c.ranges.z) ∙ by (goal.at.returns-in-105 c).Start (byte "i") c.in-105.is
+    ap (λ (x : ℤ). Literal.Value (Value.Whole x) (c.args.at + 1)) (to_z-of_z c.ranges.z)
+    ∙ by (goal.at.returns-in-105 c).Start (byte "i") c.in-105.is
 
 pub returns-in-97 : goal.returns-in-97
 unfolding lettered prefix_of in_steps
@@ -108,4 +109,4 @@ pub returns-in_default : goal.returns-in_default
 unfolding lettered
 returns-in_default c =
     let other = apart c.args.c (ascii "iafpnumkMGTPE") _ c.in_default.in_default-own.rest in
-    sym (ap (lettered (c.args.z) (c.args.at)) (no_letter other))
+    sym (ap (lettered c.args.z c.args.at) (no_letter other))

@@ -16,14 +16,14 @@ module _ (c : Start) where
 
 -- below -2 ^ 31: one turn up
 module _ (c : Then-r-lt-LOWEST) where
-  low : Narrow (λ (z : ℤ). z +ℤ pos 4294967296) (c.args.r) (folded (c.args.r))
+  low : Narrow (λ (z : ℤ). z +ℤ pos 4294967296) c.args.r (folded c.args.r)
   low =
       Wrap.by_op (λ (z : ℤ). z +ℤ pos 4294967296) _ _ c.ranges.r
       (Wrap.low _ c.requires (tested c.before.before (negsuc 2147483647) true c.if-r-lt-LOWEST.true))
 
 -- from there up to zero
 module _ (c : Else-r-lt-LOWEST) where
-  below : Cast (c.args.r) (folded (c.args.r))
+  below : Cast c.args.r (folded c.args.r)
   below =
       Wrap.as_is c.ranges.r
       (Wrap.below_zero _ (tested c.before.before (pos 0) true c.if-r-lt0.true)
@@ -31,7 +31,7 @@ module _ (c : Else-r-lt-LOWEST) where
 
 -- from zero up to 2 ^ 31
 module _ (c : Then-r-lt-ABOVE_ALL) where
-  above : Cast (c.args.r) (folded (c.args.r))
+  above : Cast c.args.r (folded c.args.r)
   above =
       Wrap.as_is c.ranges.r
       (Wrap.above_zero _ (tested c.before.before (pos 0) false c.if-r-lt0.false)
@@ -39,7 +39,7 @@ module _ (c : Then-r-lt-ABOVE_ALL) where
 
 -- from there on: one turn down
 module _ (c : Else-r-lt-ABOVE_ALL) where
-  high : Narrow (λ (z : ℤ). z -ℤ pos 4294967296) (c.args.r) (folded (c.args.r))
+  high : Narrow (λ (z : ℤ). z -ℤ pos 4294967296) c.args.r (folded c.args.r)
   high =
       Wrap.by_op (λ (z : ℤ). z -ℤ pos 4294967296) _ _ c.ranges.r
       (Wrap.high _ c.requires (tested c.before.before (pos 0) false c.if-r-lt0.false)

@@ -16,8 +16,8 @@ pub returns-then-word-eq0 : goal.returns-then-word-eq0
 returns-then-word-eq0 c = empty _ c.if-word-eq0.true
 
 pub digits-requires : goal.digits-requires
-digits-requires c = sign_within (c.args.word.now) (some c) c.past_sign.ensures
+digits-requires c = sign_within c.args.word.now (some c) c.past_sign.ensures
 
 pub returns : goal.returns
 returns c =
-    c.digits.ensures ∙ behind_sign (c.args.word.now) (some (goal.at.returns c).After-past_sign) c.past_sign.ensures
+    c.digits.ensures ∙ behind_sign c.args.word.now (some (goal.at.returns c).After-past_sign) c.past_sign.ensures

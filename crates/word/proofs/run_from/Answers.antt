@@ -1,9 +1,6 @@
 -- `word::run_from` goes byte by byte. Assumes nothing.
-use borrow.Author.Tests.{not-true, not-false}
 use mathlib.Core.Path.{refl, sym, ◌∙◌}
 use Rattle.word.proofs.Runs.{goes_on, stops, ends}
-use mathlib.Core.Path.{ap}
-use mathlib.Core.Bool.{not}
 use Rattle.word.proofs.run_from.Goals as goal
 
 pub loop-i-init : goal.loop-i-init
@@ -12,12 +9,12 @@ loop-i-init c = record { same = refl }
 pub returns-then-not-of_class : goal.returns-then-not-of_class
 returns-then-not-of_class c =
     stops c.loop-i.invariant c.loop-i-test.true
-    (sym c.of_class.ensures ∙ not-true _ (ap not c.if-not-of_class.true))
+    (sym c.of_class.ensures ∙ c.if-not-of_class.true)
 
 pub loop-i-preserved : goal.loop-i-preserved
 loop-i-preserved c =
     goes_on c.loop-i.invariant c.loop-i-test.true
-    (sym c.of_class.ensures ∙ not-false _ (ap not c.if-not-of_class.false))
+    (sym c.of_class.ensures ∙ c.if-not-of_class.false)
 
 pub returns : goal.returns
 returns c = ends c.loop-i.invariant c.loop-i-test.false
