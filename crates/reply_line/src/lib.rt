@@ -46,6 +46,7 @@ pub enum Line {
 }
 
 // 01's number of a refusal.
+#[tactic(auto, unfolding(crate::specs::Line::number_of))]
 pub fn number(refusal: Refusal) -> u8
     ensures { result ≡ number_of refusal }
 {
@@ -62,6 +63,7 @@ pub fn number(refusal: Refusal) -> u8
 }
 
 // The letter of a row: S for the script, M for a measuring loop, L for a loop, C for a scan.
+#[tactic(auto, unfolding(crate::specs::Line::letter_of))]
 pub fn letter(kind: RowKind) -> u8
     ensures { result ≡ letter_of kind }
 {
@@ -74,6 +76,7 @@ pub fn letter(kind: RowKind) -> u8
 }
 
 // After the four digits of an error line: nothing, or a colon and a space.
+#[tactic(auto, unfolding(crate::specs::Line::ends_error))]
 fn ends_error(s: &[u8]) -> bool
     ensures { result ≡ ends_error s.now }
 {
@@ -86,6 +89,7 @@ fn ends_error(s: &[u8]) -> bool
     if 8 <= s.len() { s[7] == b' ' } else { false }
 }
 
+#[tactic(auto, unfolding(crate::specs::Line::error_code, crate::specs::Line::non_zero))]
 fn error_code(s: &[u8]) -> Hex
     ensures { result ≡ error_code s.now }
 {
@@ -108,6 +112,7 @@ fn error_code(s: &[u8]) -> Hex
     }
 }
 
+#[tactic(auto, unfolding(crate::specs::Line::is_e))]
 fn is_e(s: &[u8]) -> bool
     ensures { result ≡ is_e s.now }
 {
@@ -115,6 +120,7 @@ fn is_e(s: &[u8]) -> bool
 }
 
 // The first line, to which row 0 of the n rows belongs.
+#[tactic(auto, unfolding(crate::specs::Line::first_line, crate::specs::Line::with_row))]
 fn first_line(s: &[u8], n: usize) -> Line
     ensures { result ≡ first_line n s.now }
 {
@@ -137,6 +143,7 @@ fn first_line(s: &[u8], n: usize) -> Line
 }
 
 // What a single byte means, where nothing follows it.
+#[tactic(auto, unfolding(crate::specs::Line::alone_in))]
 fn alone(s: &[u8], l: Line) -> Line
     ensures { result ≡ alone_in s.now l }
 {
@@ -147,6 +154,7 @@ fn alone(s: &[u8], l: Line) -> Line
     }
 }
 
+#[tactic(auto, unfolding(crate::specs::Line::mark_line, crate::specs::Line::mark_of))]
 fn mark_line(s: &[u8]) -> Line
     ensures { result ≡ mark_line s.now }
 {
@@ -161,6 +169,7 @@ fn mark_line(s: &[u8]) -> Line
 }
 
 // The number that the instrument prints behind a scan's letter: four decimal digits.
+#[tactic(auto, using(crate::proofs::Lines::cycle_next), unfolding(crate::specs::Line::has_cycle))]
 fn has_cycle(s: &[u8]) -> bool
     ensures { result ≡ has_cycle s.now }
 {
@@ -171,6 +180,7 @@ fn has_cycle(s: &[u8]) -> bool
     cycle.next == WITH_DIGITS
 }
 
+#[tactic(auto, unfolding(crate::specs::Line::scan_line))]
 fn scan_line(s: &[u8]) -> Line
     ensures { result ≡ scan_line s.now }
 {
@@ -192,6 +202,7 @@ fn package_line(s: &[u8]) -> Line
     }
 }
 
+#[tactic(auto, unfolding(crate::specs::Line::later_error))]
 fn error_line(s: &[u8]) -> Line
     ensures { result ≡ later_error (error_code s.now) }
 {
@@ -202,6 +213,7 @@ fn error_line(s: &[u8]) -> Line
 }
 
 // A line after the first. Where the reply is known to be good, its packages are not read again.
+#[tactic(auto, unfolding(crate::specs::Code::later_by, crate::specs::Code::package_by, crate::specs::Line::by_first))]
 fn later_line(s: &[u8], known: bool) -> Line
     ensures { result ≡ later_by known s.now }
 {
@@ -235,6 +247,7 @@ fn later_line(s: &[u8], known: bool) -> Line
 }
 
 // Line k of a reply, from 1, for a table of n rows.
+#[tactic(auto, using(crate::proofs::Lines::judged), unfolding(crate::specs::Line::line_at))]
 pub fn line_at(s: &[u8], k: usize, n: usize) -> Line
     ensures { result ≡ line_at n k s.now }
 {
