@@ -71,6 +71,7 @@ fn same_kind(k: RowKind, l: RowKind) -> bool
 }
 
 // The kind of the innermost that is open; the script's where nothing is.
+#[tactic(auto, using(crate::proofs::Loops::innermost_none, crate::proofs::Loops::innermost_top))]
 fn innermost_in(st: Open) -> RowKind
     ensures { result ≡ innermost (kinds st) }
 {
@@ -81,6 +82,7 @@ fn innermost_in(st: Open) -> RowKind
 }
 
 // Whether a mark may open here: a scan only directly inside a measuring loop, nothing inside a scan.
+#[tactic(auto, unfolding(crate::specs::Step::may_open))]
 fn may_open(k: RowKind, st: Open) -> bool
     ensures { result ≡ may_open k (kinds st) }
 {
@@ -92,6 +94,7 @@ fn may_open(k: RowKind, st: Open) -> bool
 }
 
 // Whether a mark closes the innermost that is open.
+#[tactic(auto, using(crate::proofs::Loops::closes_none, crate::proofs::Loops::closes_top))]
 fn closes_it(k: RowKind, st: Open) -> bool
     ensures { result ≡ closes k (kinds st) }
 {
@@ -149,6 +152,7 @@ fn open_mark(k: RowKind, st: Open, n: usize) -> Step
 }
 
 // A closing mark.
+#[tactic(auto, using(crate::proofs::Loops::closes_some))]
 fn close_mark(k: RowKind, st: Open) -> Step
     ensures { result ≡ close_in k st }
 {
