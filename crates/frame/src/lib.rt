@@ -77,6 +77,7 @@ impl HostNumber {
         sent
     }
 
+    #[tactic(auto, unfolding(crate::specs::Frame::next))]
     fn next(self) -> HostNumber
         ensures { result.0 ≡ next self.0 }
     {
@@ -107,6 +108,7 @@ impl InstrumentNumber {
         received
     }
 
+    #[tactic(auto, unfolding(crate::specs::Frame::next))]
     fn next(self) -> InstrumentNumber
         ensures { result.0 ≡ next self.0 }
     {
@@ -115,6 +117,7 @@ impl InstrumentNumber {
 }
 
 // The number that the paper gives a refusal.
+#[tactic(auto, unfolding(crate::specs::Answer::number_of))]
 pub fn number(refusal: Refusal) -> u8
     ensures { result ≡ number_of refusal }
 {
@@ -127,6 +130,7 @@ pub fn number(refusal: Refusal) -> u8
     }
 }
 
+#[tactic(auto, using(crate::proofs::Newline::again_found, crate::proofs::Newline::again_other))]
 fn has_newline(s: &[u8]) -> bool
     ensures { result ≡ contains 10 s.now }
 {
@@ -142,6 +146,7 @@ fn has_newline(s: &[u8]) -> bool
     found
 }
 
+#[tactic(auto, unfolding(crate::specs::Frame::right_crc))]
 fn right_crc(line: &[u8], k: usize) -> bool
     requires { k + 6 ≤ length line.now }
     ensures { result ≡ right_crc line.now k }
@@ -157,6 +162,7 @@ fn right_crc(line: &[u8], k: usize) -> bool
     v == crc as u32
 }
 
+#[tactic(auto, unfolding(crate::specs::Frame::right_number))]
 fn right_number(line: &[u8], k: usize, expected: u8) -> bool
     ensures { result ≡ right_number line.now k expected }
 {
@@ -196,6 +202,7 @@ pub fn content(line: &[u8], length: usize) -> &[u8]
     line
 }
 
+#[tactic(auto, unfolding(crate::specs::Frame::unfit))]
 fn unfit(content: &[u8]) -> bool
     ensures { result ≡ unfit content.now }
 {
