@@ -57,6 +57,7 @@ pub enum NextLine {
 // ---- the verdict: a pass that writes nothing
 
 // The line that starts at a place. Bytes after the last newline are no line.
+#[tactic(auto, unfolding(crate::specs::Lines::next_line))]
 fn next_line(reply: &[u8], at: usize) -> NextLine
     ensures { result ≡ next_line reply.now at }
 {
@@ -111,6 +112,7 @@ fn judge(reply: &[u8], n: usize) -> Answer
 }
 
 // The verdict on a whole reply, for a table of n rows that nobody need lend.
+#[tactic(auto, unfolding(crate::specs::Reply::outcome_of))]
 pub fn judge_reply(reply: &[u8], n: usize) -> Answer
     ensures { meaning result ≡ outcome_of n reply.now }
 {
@@ -153,6 +155,7 @@ pub struct Turn {
     pub next: Stand,
 }
 
+#[tactic(auto, using(crate::proofs::Lines::stands, crate::proofs::Turns::seen_text, crate::proofs::Turns::seen_none))]
 fn seen_at(reply: &[u8], pos: usize, end: usize) -> Seen
     ensures { result ≡ seen_at reply.now end pos }
 {
@@ -172,6 +175,7 @@ fn seen_at(reply: &[u8], pos: usize, end: usize) -> Seen
 }
 
 // Which row a line is about: an opening mark the next free one, any other the innermost.
+#[tactic(auto, unfolding(crate::specs::Code::place_by))]
 fn place_by(line: Line, holder: usize, rows: usize) -> usize
     ensures { result ≡ place_by line holder rows }
 {
@@ -187,12 +191,14 @@ fn place_by(line: Line, holder: usize, rows: usize) -> usize
 }
 
 // One more; no reply has so many rows or packages that this stands still.
+#[tactic(auto, unfolding(crate::specs::Code::one_more))]
 fn one_more(count: usize) -> usize
     ensures { result ≡ one_more count }
 {
     if count < MOST_BYTES { count + 1 } else { count }
 }
 
+#[tactic(auto, unfolding(crate::specs::Code::raised_row))]
 fn raised_row(old: Row) -> Row
     ensures { result ≡ raised_row old }
 {
@@ -216,6 +222,7 @@ fn changed(row: Row, holder: usize, rows: usize) -> Change
     }
 }
 
+#[tactic(auto, unfolding(crate::specs::Code::change_by))]
 fn change_by(line: Line, holder: usize, rows: usize, old: Row) -> Change
     ensures { result ≡ change_by line holder rows old }
 {
@@ -244,6 +251,7 @@ fn change_by(line: Line, holder: usize, rows: usize, old: Row) -> Change
 
 // The verdict, and where the second pass starts: the first line opens the script's row. A reply that is refused has
 // nothing left to read.
+#[tactic(auto, using(crate::proofs::Turns::begins, crate::proofs::Turns::begins_refused))]
 fn begin(reply: &[u8], n: usize) -> Stand
     ensures { result ≡ start_in reply.now n }
 {
@@ -278,6 +286,7 @@ fn begin(reply: &[u8], n: usize) -> Stand
 }
 
 // Which of n rows the line at a stand is about.
+#[tactic(auto, unfolding(crate::specs::Code::place_in))]
 fn place_in(st: Stand, n: usize) -> usize
     ensures { result ≡ place_in st n }
 {
@@ -287,6 +296,7 @@ fn place_in(st: Stand, n: usize) -> usize
 }
 
 // What that row is to be, and where the pass then stands.
+#[tactic(auto, unfolding(crate::specs::Code::turned))]
 fn take_turn(reply: &[u8], st: Stand, old: Row) -> Turn
     ensures { result ≡ turned reply.now st old }
 {
@@ -336,6 +346,7 @@ pub struct RowTable {
 }
 
 // The same by value, for those who lend no table of their own.
+#[tactic(auto, unfolding(crate::specs::Rows::table_meaning, crate::specs::Rows::read_table))]
 pub fn read_table(reply: &[u8]) -> RowTable
     ensures { table_meaning result ≡ read_table reply.now }
 {
@@ -348,6 +359,7 @@ pub fn read_table(reply: &[u8]) -> RowTable
 }
 
 // A row of the table, or the script's where there is no such place.
+#[tactic(auto, using(crate::proofs::Rows::past_rows))]
 pub fn row_of(table: RowTable, at: usize) -> Row
     ensures { result ≡ get_or table.rows at script_row }
 {
@@ -368,6 +380,7 @@ pub struct LineReader<'a> {
 }
 
 // Where a reader stands after a line; with no line left, where it stood.
+#[tactic(auto, unfolding(crate::specs::Lines::place_after))]
 fn place_after(line: NextLine, at: usize) -> usize
     ensures { result ≡ place_after line at }
 {

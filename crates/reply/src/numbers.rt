@@ -12,6 +12,7 @@ const NUMBERS_A_ROW: usize = 4;
 const OVER_32_BITS: usize = 4294967296;
 
 // The kind that has a letter; any other letter is the script's.
+#[tactic(auto, unfolding(crate::specs::Numbers::kind_of))]
 fn kind_of(letter: u32) -> RowKind
     ensures { result ≡ kind_of letter }
 {
@@ -33,6 +34,7 @@ fn wide(number: u32) -> usize
     number as usize
 }
 
+#[tactic(auto, unfolding(crate::specs::Numbers::row_at))]
 fn row_at(numbers: &[u32], at: usize) -> Row
     requires { at * 4 + 4 ≤ length numbers.now }
     ensures { result ≡ row_at numbers.now at }
@@ -48,6 +50,7 @@ fn row_at(numbers: &[u32], at: usize) -> Row
 }
 
 // The row whose numbers stand at a place, or the script's where there is no such place.
+#[tactic(auto, unfolding(crate::specs::Numbers::row_in))]
 pub fn row_in(numbers: &[u32], at: usize) -> Row
     ensures { result ≡ row_in numbers.now at }
 {
