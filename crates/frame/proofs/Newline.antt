@@ -1,5 +1,7 @@
 -- Laws of `contains`: by a loop, in joined lists, in digits. Assumes nothing.
-use Rattle.std.proofs.Common.{◌≡◌, ℕ, zero, suc, ◌+◌, ◌-◌, ◌/◌, ◌<◌, ◌≤◌, Bool, true, false, cond, ◌||◌, eqb, ltb, List, [], ◌∷◌, ◌++◌, length, get_or, drop, sym, refl, ap, ◌∙◌, ap₂, add-one, arith, drop_of_length-le, drop-cons, eq-eqb, ne_eqb}
+use Rattle.std.proofs.Common.{◌≡◌, ℕ, zero, suc, ◌+◌, ◌-◌, ◌/◌, ◌<◌, ◌≤◌, Bool, true, false, cond, ◌||◌, eqb, ltb}
+use Rattle.std.proofs.Common.{List, [], ◌∷◌, ◌++◌, length, get_or, drop, sym, refl, ap, ◌∙◌, ap₂, add-one, arith}
+use Rattle.std.proofs.Common.{drop_of_length-le, drop-cons, eq-eqb, ne_eqb}
 use mathlib.Core.Bool.{or-false}
 use Rattle.frame.specs.Frame.{contains}
 use Rattle.text.specs.Bytes.{byte}

@@ -1,5 +1,6 @@
 -- The steps of the writer, one after the other, put a framed line. Assumes nothing.
-use Rattle.std.proofs.Common.{◌≡◌, ℕ, ◌+◌, ◌≤◌, List, [], ◌∷◌, ◌++◌, length, take, set, sym, ap, ◌∙◌, arith, length-append}
+use Rattle.std.proofs.Common.{◌≡◌, ℕ, ◌+◌, ◌≤◌, List, [], ◌∷◌, ◌++◌, length, take, set, sym, ap, ◌∙◌, arith}
+use Rattle.std.proofs.Common.{length-append}
 use Rattle.crc.specs.Crc.{crc}
 use Rattle.frame.specs.Frame.{framed, numbered}
 use Rattle.text.proofs.Put.{fitting, front, length-put, put_more, put_in_more, stores1}

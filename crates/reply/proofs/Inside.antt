@@ -37,7 +37,8 @@ Around rows (k ∷ ls) at = (at < length rows) × (kind_at rows at ≡ k) × Aro
 
 -- each row but the script's may open inside its parent
 abbrev Inside : List Row → Type 0
-Inside rows = (i : ℕ) → i < length rows → 0 < i → may_open (kind_at rows i) (kind_at rows (parent_at rows i) ∷ []) ≡ true
+Inside rows =
+    (i : ℕ) → i < length rows → 0 < i → may_open (kind_at rows i) (kind_at rows (parent_at rows i) ∷ []) ≡ true
 
 record Nested (o : Open) (at : ℕ) (rows : List Row) : Type 0 where
   script : kind_at rows 0 ≡ RowKind.Script

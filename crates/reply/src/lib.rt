@@ -323,6 +323,7 @@ fn take_turn(reply: &[u8], st: Stand, old: Row) -> Turn
 // ---- rows
 
 // The whole: the verdict first, then one store a line.
+#[tactic(auto, using(crate::proofs::Turns::place_below))]
 pub fn read_reply(reply: &[u8], rows: &mut [Row]) -> Answer
     ensures { ReadRows reply.now rows.old result rows.new }
 {

@@ -68,6 +68,7 @@ fn low(count: usize) -> u32
     (count % OVER_32_BITS) as u32
 }
 
+#[tactic(auto, using(text::proofs::Put::stores4), unfolding(crate::specs::Code::put_row, crate::specs::Code::cut_row))]
 fn put_row(numbers: &mut [u32], at: usize, row: Row)
     requires { at * 4 + 4 ≤ length numbers.old }
     ensures { numbers.new ≡ put_row numbers.old at row }

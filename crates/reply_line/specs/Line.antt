@@ -38,7 +38,8 @@ non_zero (Hex.Number v) = cond (eqb v 0) Hex.Bad (Hex.Number v)
 non_zero Hex.Bad = Hex.Bad
 
 unfoldable pub ends_error : List ℕ → Bool
-ends_error s = leb (length s) 6 || (eqb (get_or s 6 0) (byte ":") && (leb 8 (length s) && eqb (get_or s 7 0) (byte " ")))
+ends_error s =
+    leb (length s) 6 || (eqb (get_or s 6 0) (byte ":") && (leb 8 (length s) && eqb (get_or s 7 0) (byte " ")))
 
 unfoldable pub error_code : List ℕ → Hex
 unfolding non_zero ends_error

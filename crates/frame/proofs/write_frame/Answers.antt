@@ -35,4 +35,5 @@ returns-then-buf-n c = by_room (goal.at.returns-then-buf-n c).Else-unfit true (l
 pub returns : goal.returns
 unfolding meaning_written
 returns c =
-    simp (c.next.ensures, c.put_frame.ensures) (by_room (goal.at.returns c).Else-unfit false (le-ltb _ _ c.if-buf-n.false))
+    simp (c.next.ensures, c.put_frame.ensures)
+    (by_room (goal.at.returns c).Else-unfit false (le-ltb _ _ c.if-buf-n.false))

@@ -1,48 +1,14 @@
 -- `read_reply` makes a turn a line. Assumes nothing.
 use lib.ListN.{length, length-set}
-use mathlib.Core.List.{List}
-use mathlib.Core.Path.{◌≡◌, refl, ◌∙◌}
-use native.Mathlib.Omega.{arith}
-use Prim.Native.Nat.{ℕ, ◌<◌}
+use mathlib.Core.Path.{refl, ◌∙◌}
 use Rattle.reply.proofs.Coming.{come_first, Taken, take_on, take_less, come_end, come_says}
 use Rattle.reply.proofs.Over.{table_is}
-use Rattle.reply.proofs.Turns.{place_below}
-use Rattle.reply.proofs.Whole.{Starts}
-use Rattle.reply.specs.declared.Row.{Row}
-use Rattle.reply.specs.declared.Stand.{Stand}
-use Rattle.reply.specs.Code.{place_in, table}
+use Rattle.reply.specs.Code.{table}
 use Rattle.reply.proofs.read_reply.Goals as goal
 use Rattle.reply.proofs.read_reply.Goals.{After-take_turn-t}
 
--- the place of a turn is that of a row
-one_of : (st : Stand) (lent rows : List Row) (at : ℕ) → Starts (length lent) st → st.pos < st.end
-    → at ≡ place_in st (length lent) → length rows ≡ length lent → at < length rows
-one_of st lent rows at ready left is size = rw (is, size) (place_below st (length lent) (ready.some left))
-
 pub loop-st-init : goal.loop-st-init
 loop-st-init c = record { come = rw c.begin-st.ensures (come_first table _ _ _); size = refl }
-
-pub offset_bounds-rows-at : goal.offset_bounds-rows-at
-offset_bounds-rows-at c =
-    let i = c.loop-st.invariant in
-    let h = one_of c.loop-st.st _ _ _ i.come.ready c.loop-st-test.true c.place_in-at.ensures i.size in
-    omega arith
-
-pub slice_copy_out-old : goal.slice_copy_out-old
-slice_copy_out-old c =
-    let i = c.loop-st.invariant in
-    one_of c.loop-st.st _ _ _ i.come.ready c.loop-st-test.true c.place_in-at.ensures i.size
-
-pub offset_bounds-rows-at-in-loop-st : goal.offset_bounds-rows-at-in-loop-st
-offset_bounds-rows-at-in-loop-st c =
-    let i = c.loop-st.invariant in
-    let h = one_of c.loop-st.st _ _ _ i.come.ready c.loop-st-test.true c.place_in-at.ensures i.size in
-    omega arith
-
-pub bounds-rows-at : goal.bounds-rows-at
-bounds-rows-at c =
-    let i = c.loop-st.invariant in
-    one_of c.loop-st.st _ _ _ i.come.ready c.loop-st-test.true c.place_in-at.ensures i.size
 
 -- with the turn made, and its row put: a turn is taken
 module _ (c : After-take_turn-t) where

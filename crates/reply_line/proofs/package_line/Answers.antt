@@ -32,4 +32,5 @@ returns-in-BadPart c = refused (goal.at.returns-in-BadPart c).After-judge_packag
 
 pub returns-in-TooManyParts : goal.returns-in-TooManyParts
 unfolding package_line meaning number_of
-returns-in-TooManyParts c = refused (goal.at.returns-in-TooManyParts c).After-judge_package _ _ _ c.in-TooManyParts.is c.in-Refused.is
+returns-in-TooManyParts c =
+    refused (goal.at.returns-in-TooManyParts c).After-judge_package _ _ _ c.in-TooManyParts.is c.in-Refused.is
