@@ -6,7 +6,6 @@ use mathlib.Core.List.{List}
 use lib.Dec.{eqb}
 use lib.ListN.{length}
 use Rattle.argument.specs.declared.Refusal.{Refusal}
-use Rattle.argument.specs.declared.Refusal.TheVariants as Refusal
 use Rattle.argument.specs.Refusal.{number_of}
 use Rattle.loader.specs.declared.Answer.TheVariants as Answer
 use Rattle.loader.specs.declared.Loaded.{Loaded}

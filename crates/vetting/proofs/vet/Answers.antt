@@ -1,5 +1,4 @@
 use Rattle.vetting.proofs.Vetted.{by_rules, by_loader}
-use borrow.Author.Rules.{rules}
 use Rattle.vetting.proofs.vet.Goals as goal
 
 pub returns-in-Accepted : goal.returns-in-Accepted
