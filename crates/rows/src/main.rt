@@ -4,8 +4,8 @@
 
 ghost use Rattle.std.specs.Prelude.{◌≡◌, length};
 
-use libc::{STDERR_FILENO, STDIN_FILENO, STDOUT_FILENO};
 use reply::{Answer, Row, RowTable};
+use std::io;
 use stream::Input;
 
 // One byte more than the longest reply, so that a longer one is known.
@@ -15,80 +15,76 @@ fn buffer() -> [u8; 65537]
     [0; 65537]
 }
 
-// Whether all of it was written; so with every function here that puts something.
-fn put(bytes: &[u8]) -> bool {
-    io::write_all(STDOUT_FILENO, bytes)
-}
-
-fn put_number(key: &[u8], n: usize) -> bool {
-    let wide = n as u64;
-    put(key) && io::print_decimal(STDOUT_FILENO, wide) && put(b"\n")
+fn put_number(out: &impl Print, key: &[u8], n: usize) -> io::Result<()> {
+    out.write_all(key)?;
+    out.println(n)
 }
 
 // Four upper-case digits.
-fn put_code(key: &[u8], code: u32) -> bool {
+fn put_code(out: &impl Print, key: &[u8], code: u32) -> io::Result<()> {
     let low = code % 65536;
     let mut digits = [0u8; 4];
     text::put_hex4(&mut digits, 0, low as u16);
-    put(key) && put(&digits) && put(b"\n")
+    out.write_all(key)?;
+    out.write_all(&digits)?;
+    out.write_all(b"\n")
 }
 
-fn put_row(at: usize, row: Row) -> bool {
+fn put_row(out: &impl Print, at: usize, row: Row) -> io::Result<()> {
     let kind = row.kind;
     let letter = [reply_line::letter(kind), b'\n'];
-    put_number(b"row=", at)
-        && put(b"kind=")
-        && put(&letter)
-        && put_code(b"mark=", row.mark)
-        && put_number(b"parent=", row.parent)
-        && put_number(b"packages=", row.packages)
+    put_number(out, b"row=", at)?;
+    out.write_all(b"kind=")?;
+    out.write_all(&letter)?;
+    put_code(out, b"mark=", row.mark)?;
+    put_number(out, b"parent=", row.parent)?;
+    put_number(out, b"packages=", row.packages)
 }
 
-fn put_rows(table: RowTable, rows: usize) -> bool {
+fn put_rows(out: &impl Print, table: RowTable, rows: usize) -> io::Result<()> {
     let mut at: usize = 0;
     while at < rows {
         let row = reply::row_of(table, at);
-        if !put_row(at, row) {
-            return false;
-        }
+        put_row(out, at, row)?;
         at += 1;
     }
-    true
+    Ok(())
 }
 
-fn put_table(table: RowTable) -> bool {
+fn put_table(out: &impl Print, table: RowTable) -> io::Result<()> {
     let answer = table.answer;
     match answer {
         Answer::Read { code, used, rows } => {
-            put(b"result=0\n")
-                && put_code(b"code=", code)
-                && put_number(b"used=", used)
-                && put_number(b"rows=", rows)
-                && put_rows(table, rows)
+            out.write_all(b"result=0\n")?;
+            put_code(out, b"code=", code)?;
+            put_number(out, b"used=", used)?;
+            put_number(out, b"rows=", rows)?;
+            put_rows(out, table, rows)
         }
         Answer::Refused(why, line) => {
             let number = reply_line::number(why);
-            put_number(b"result=", number as usize) && put_number(b"line=", line)
+            put_number(out, b"result=", number as usize)?;
+            put_number(out, b"line=", line)
         }
     }
 }
 
-fn say(bytes: &[u8]) {
-    io::write_all(STDERR_FILENO, bytes);
+fn say(err: &impl Eprint, text: &str) {
+    let _ = err.eprintln(text);
 }
 
-fn list(reply: &[u8]) {
+fn list(rt: &(impl Print + Eprint), reply: &[u8]) {
     let table = reply::read_table(reply);
-    if !put_table(table) {
-        say(b"rows: standard output could not be written\n");
+    if put_table(rt, table).is_err() {
+        say(rt, "rows: standard output could not be written");
     }
 }
 
-fn main() {
+fn main(rt: HostRuntime) {
     let mut bytes = buffer();
-    let input = stream::read_whole(STDIN_FILENO, &mut bytes);
+    let input = stream::read_whole(&mut rt.stdin(), &mut bytes);
     match input {
-        Input::Bytes(n) => list(&bytes[..n]),
-        Input::Failed => say(b"rows: standard input could not be read\n"),
+        Input::Bytes(n) => list(&rt, &bytes[..n]),
+        Input::Failed => say(&rt, "rows: standard input could not be read"),
     }
 }

@@ -4,30 +4,27 @@
 
 ghost use Rattle.std.specs.Prelude.{◌≡◌, length};
 
-use libc::{STDERR_FILENO, STDIN_FILENO, STDOUT_FILENO};
+use std::io;
 use stream::Input;
 use vetting::{Told, vet};
 
-// Whether the line was written.
-fn put_line(name: &[u8], n: u64) -> bool {
-    io::write_all(STDOUT_FILENO, name)
-        && io::print_decimal(STDOUT_FILENO, n)
-        && io::write_all(STDOUT_FILENO, b"\n")
-}
-
-fn put_told(told: Told) -> bool {
+fn put_told(out: &impl Print, told: Told) -> io::Result<()> {
     let number = told.number;
     let line = told.line;
-    put_line(b"result=", number as u64) && (number == 0 || put_line(b"line=", line as u64))
+    println!(out; "result={number}")?;
+    if number == 0 {
+        return Ok(());
+    }
+    println!(out; "line={line}")
 }
 
-fn say(bytes: &[u8]) {
-    io::write_all(STDERR_FILENO, bytes);
+fn say(err: &impl Eprint, text: &str) {
+    let _ = err.eprintln(text);
 }
 
-fn judge(text: &[u8]) {
-    if !put_told(vet(text)) {
-        say(b"vet: standard output could not be written\n");
+fn judge(rt: &(impl Print + Eprint), text: &[u8]) {
+    if put_told(rt, vet(text)).is_err() {
+        say(rt, "vet: standard output could not be written");
     }
 }
 
@@ -38,11 +35,11 @@ fn buffer() -> [u8; 8193]
     [0; 8193]
 }
 
-fn main() {
+fn main(rt: HostRuntime) {
     let mut bytes = buffer();
-    let input = stream::read_whole(STDIN_FILENO, &mut bytes);
+    let input = stream::read_whole(&mut rt.stdin(), &mut bytes);
     match input {
-        Input::Bytes(n) => judge(&bytes[..n]),
-        Input::Failed => say(b"vet: standard input could not be read\n"),
+        Input::Bytes(n) => judge(&rt, &bytes[..n]),
+        Input::Failed => say(&rt, "vet: standard input could not be read"),
     }
 }
