@@ -2,9 +2,9 @@
 #![tactic(auto)]
 
 use frame::{HostNumber, WrittenFrame};
-use libc::STDOUT_FILENO;
 use loader::Answer;
 use rules::Verdict;
+use std::io;
 
 const ROOM: usize = 4096;
 
@@ -117,19 +117,17 @@ fn boxes(n: usize) -> u8 {
     vetted(with_lines(opened, b"endif", n))
 }
 
-fn told(what: &[u8], number: u8) {
-    io::write_all(STDOUT_FILENO, what);
-    io::print_decimal(STDOUT_FILENO, number as u64);
-    io::write_all(STDOUT_FILENO, b"\n");
+fn told(out: &impl Print, what: &str, number: u8) -> io::Result<()> {
+    println!(out; "{what}{number}")
 }
 
-fn main() {
-    told(b"content 127: ", content(127));
-    told(b"content 128: ", content(128));
-    told(b"names 32: ", names(32));
-    told(b"names 33: ", names(33));
-    told(b"items 128: ", items(128));
-    told(b"items 129: ", items(129));
-    told(b"boxes 8: ", boxes(8));
-    told(b"boxes 9: ", boxes(9));
+fn main(rt: HostRuntime) -> io::Result<()> {
+    told(&rt, "content 127: ", content(127))?;
+    told(&rt, "content 128: ", content(128))?;
+    told(&rt, "names 32: ", names(32))?;
+    told(&rt, "names 33: ", names(33))?;
+    told(&rt, "items 128: ", items(128))?;
+    told(&rt, "items 129: ", items(129))?;
+    told(&rt, "boxes 8: ", boxes(8))?;
+    told(&rt, "boxes 9: ", boxes(9))
 }
