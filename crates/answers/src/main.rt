@@ -4,7 +4,8 @@
 //
 // To add an op: write `pub fn NAME(case: &[u8], out: &mut [u8]) -> usize` in the file of its group, here or in
 // `wire_ops`, which puts the answer into `out` and answers how many bytes it has; add a row to OPS, and an arm at the
-// same place to `answer_op`.
+// same place to `answer_op`. An op that may say more than `out` has room for writes what it has put as it goes, and so
+// is given what prints.
 #![tactic(auto)]
 
 mod runs;
@@ -14,7 +15,9 @@ ghost use Rattle.std.specs.Prelude.{◌≡◌, ◌≤◌, length};
 
 use case_text::put::put;
 use case_text::read::{at_most, begins, find, past};
-use libc::{STDIN_FILENO, STDOUT_FILENO};
+use std::io;
+use std::io::Read;
+use stream::Input;
 use wire_ops::{frames, lines, packages, replies};
 use word::Found;
 
@@ -42,33 +45,33 @@ fn unknown(out: &mut [u8]) -> usize {
     put(out, 0, b"not a case\n")
 }
 
-fn answer_op(op: usize, case: &[u8], out: &mut [u8]) -> usize {
+fn answer_op(to: &impl Print, op: usize, case: &[u8], out: &mut [u8]) -> io::Result<usize> {
     match op {
-        0 => frames::frame_read(case, out),
-        1 => frames::frame_write(case, out),
-        2 => packages::package(case, out),
-        3 => replies::reply(case, out),
-        4 => replies::row(case, out),
-        5 => scripts::load(case, out),
-        6 => scripts::check(case, out),
-        7 => scripts::check_table(case, out),
-        8 => scripts::table(case, out),
-        9 => runs::run(case, out),
-        10 => runs::run_table(case, out),
-        11 => runs::run_within(case, out),
-        12 => runs::run_safe(case, out),
-        13 => lines::lines(case, out),
-        14 => lines::content(case, out),
-        _ => unknown(out),
+        0 => Ok(frames::frame_read(case, out)),
+        1 => Ok(frames::frame_write(case, out)),
+        2 => Ok(packages::package(case, out)),
+        3 => Ok(replies::reply(case, out)),
+        4 => Ok(replies::row(case, out)),
+        5 => Ok(scripts::load(case, out)),
+        6 => Ok(scripts::check(case, out)),
+        7 => Ok(scripts::check_table(case, out)),
+        8 => Ok(scripts::table(case, out)),
+        9 => runs::run(to, case, out),
+        10 => runs::run_table(to, case, out),
+        11 => Ok(runs::run_within(case, out)),
+        12 => Ok(runs::run_safe(case, out)),
+        13 => Ok(lines::lines(case, out)),
+        14 => Ok(lines::content(case, out)),
+        _ => Ok(unknown(out)),
     }
 }
 
-fn answer(case: &[u8], out: &mut [u8]) -> usize {
+fn answer(to: &impl Print, case: &[u8], out: &mut [u8]) -> io::Result<usize> {
     let from = find(case, b"op=");
-    let to = text::next_byte(case, from, b'\n');
-    match word::seek_word(&OPS, &case[from..to]) {
-        Found::At(op) => answer_op(op, case, out),
-        Found::Nothing => unknown(out),
+    let behind = text::next_byte(case, from, b'\n');
+    match word::seek_word(&OPS, &case[from..behind]) {
+        Found::At(op) => answer_op(to, op, case, out),
+        Found::Nothing => Ok(unknown(out)),
     }
 }
 
@@ -94,38 +97,50 @@ fn case_end(s: &[u8], at: usize) -> usize
     s.len()
 }
 
-fn answer_all(s: &[u8], out: &mut [u8]) {
+fn answer_all(to: &impl Print, s: &[u8], out: &mut [u8]) -> io::Result<()> {
     let mut at: usize = 0;
     let mut cases: usize = 0;
     while cases < s.len() {
         if s.len() <= at {
-            return;
+            return Ok(());
         }
         let end = case_end(s, at);
-        let n = answer(&s[at..end], out);
+        let n = answer(to, &s[at..end], out)?;
         let n = put(out, n, b"\n");
         let n = at_most(n, out);
-        io::write_all(STDOUT_FILENO, &out[..n]);
+        to.write_all(&out[..n])?;
         at = past(s, end, 2);
         cases += 1;
     }
+    Ok(())
 }
 
 // Answers a block; true where there may be another.
-fn answer_block(bytes: &mut [u8], out: &mut [u8]) -> bool {
-    let n = io::read_full(STDIN_FILENO, bytes);
-    answer_all(&bytes[..n], out);
-    n == bytes.len()
+fn answer_block<R: Read>(
+    reader: &mut R,
+    to: &impl Print,
+    bytes: &mut [u8],
+    out: &mut [u8],
+) -> io::Result<bool> {
+    match stream::read_whole(reader, bytes) {
+        Input::Bytes(n) => {
+            answer_all(to, &bytes[..n], out)?;
+            Ok(n == bytes.len())
+        }
+        Input::Failed => Err(io::Error::other("standard input could not be read")),
+    }
 }
 
-fn main() {
+fn main(rt: HostRuntime) -> io::Result<()> {
+    let mut reader = rt.stdin();
     let mut bytes = buffer();
     let mut out = buffer();
     let mut blocks: usize = 0;
     while blocks < MOST_BLOCKS {
-        if !answer_block(&mut bytes, &mut out) {
-            return;
+        if !answer_block(&mut reader, &rt, &mut bytes, &mut out)? {
+            return Ok(());
         }
         blocks += 1;
     }
+    Ok(())
 }

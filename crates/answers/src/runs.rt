@@ -1,16 +1,16 @@
 // Runs: step by step, at one asking, and of an accepted script. Behind each answer, how many places past a count hold
 // something.
-use crate::scripts::{put_form, put_rule};
+use crate::scripts::{large_buffer, put_form, put_rule};
 use case_text::put::put_line;
 use case_text::read::{at_most, bytes_of, find, next_line, number, number_of};
 use course::Ran;
-use libc::STDOUT_FILENO;
 use loader::Answer;
 use run_text::runs::{put_ran, put_step, state_at, steps_at, told_at};
 use run_text::spare;
 use safety::Judged;
 use script_text::table_at;
 use state::State;
+use std::io;
 use std::num::wrapping_add_usize;
 use table::Table;
 
@@ -23,17 +23,24 @@ fn put_spare(out: &mut [u8], at: usize, n: usize) -> usize {
 }
 
 // Writes what has been put once there is much of it: a run may have more to say than `out` has room for.
-fn flushed(out: &[u8], at: usize) -> usize {
+fn flushed(to: &impl Print, out: &[u8], at: usize) -> io::Result<usize> {
     if at < MUCH {
-        return at;
+        return Ok(at);
     }
     let n = at_most(at, out);
-    io::write_all(STDOUT_FILENO, &out[..n]);
-    0
+    to.write_all(&out[..n])?;
+    Ok(0)
 }
 
 // One step after the other, by the lines behind `steps=`.
-fn steps(case: &[u8], text: &[u8], table: Table, first: State, out: &mut [u8]) -> usize {
+fn steps(
+    to: &impl Print,
+    case: &[u8],
+    text: &[u8],
+    table: Table,
+    first: State,
+    out: &mut [u8],
+) -> io::Result<usize> {
     let head = find(case, b"steps=");
     let count = number(case, head);
     let mut line = next_line(case, head);
@@ -50,36 +57,36 @@ fn steps(case: &[u8], text: &[u8], table: Table, first: State, out: &mut [u8]) -
         m = next;
         k += 1;
         at = put_step(out, at, k, stepped);
-        at = flushed(out, at);
+        at = flushed(to, out, at)?;
         spare = wrapping_add_usize(spare, spare::in_step(stepped));
         line = next_line(case, line);
     }
-    put_spare(out, at, spare)
+    Ok(put_spare(out, at, spare))
 }
 
-fn run_loaded(case: &[u8], text: &[u8], out: &mut [u8]) -> usize {
+fn run_loaded(to: &impl Print, case: &[u8], text: &[u8], out: &mut [u8]) -> io::Result<usize> {
     let loaded = loader::load(text);
     let answer = loaded.answer;
     match answer {
         Answer::Accepted => {
             let table = loaded.table;
-            steps(case, text, table, state::fresh(), out)
+            steps(to, case, text, table, state::fresh(), out)
         }
-        Answer::Refused(why, line) => put_form(out, why, line),
+        Answer::Refused(why, line) => Ok(put_form(out, why, line)),
     }
 }
 
-pub fn run(case: &[u8], out: &mut [u8]) -> usize {
+pub fn run(to: &impl Print, case: &[u8], out: &mut [u8]) -> io::Result<usize> {
     let mut bytes = [0u8; MOST_SCRIPT];
     let n = bytes_of(case, b"script=", &mut bytes);
-    run_loaded(case, &bytes[..n], out)
+    run_loaded(to, case, &bytes[..n], out)
 }
 
 // Of a script beside its table only the length matters.
-pub fn run_table(case: &[u8], out: &mut [u8]) -> usize {
-    let bytes = io::large_buffer();
+pub fn run_table(to: &impl Print, case: &[u8], out: &mut [u8]) -> io::Result<usize> {
+    let bytes = large_buffer();
     let n = at_most(number_of(case, b"length="), &bytes);
-    steps(case, &bytes[..n], table_at(case), state_at(case), out)
+    steps(to, case, &bytes[..n], table_at(case), state_at(case), out)
 }
 
 fn put_all(out: &mut [u8], ran: Ran) -> usize {
@@ -88,7 +95,7 @@ fn put_all(out: &mut [u8], ran: Ran) -> usize {
 }
 
 pub fn run_within(case: &[u8], out: &mut [u8]) -> usize {
-    let bytes = io::large_buffer();
+    let bytes = large_buffer();
     let n = at_most(number_of(case, b"length="), &bytes);
     let budget = number_of(case, b"budget=");
     let ran = course::run(

@@ -1,4 +1,6 @@
 // The loader and the checker.
+ghost use Rattle.std.specs.Prelude.{◌≡◌, length};
+
 use argument::Refusal;
 use case_text::lesser;
 use case_text::put::{put, put_line, put_refusal};
@@ -12,6 +14,13 @@ use table::{Act, Item, Slot, Table};
 const MOST_SCRIPT: usize = 8193;
 
 const ITEMS: usize = 128;
+
+// For a script of which only the length matters.
+pub fn large_buffer() -> [u8; 65536]
+    ensures { 65536 ≡ length result }
+{
+    [0; 65536]
+}
 
 pub fn put_form(out: &mut [u8], why: Refusal, line: usize) -> usize {
     put_refusal(out, argument::number(why) as usize, line)
@@ -115,7 +124,7 @@ pub fn check(case: &[u8], out: &mut [u8]) -> usize {
 
 // Of a script beside its table only the length matters.
 pub fn check_table(case: &[u8], out: &mut [u8]) -> usize {
-    let bytes = io::large_buffer();
+    let bytes = large_buffer();
     let n = at_most(number_of(case, b"length="), &bytes);
     put_verdict(out, rules::check(&bytes[..n], table_at(case)))
 }

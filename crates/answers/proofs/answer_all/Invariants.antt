@@ -2,8 +2,8 @@ use Rattle.std.proofs.Common.{◌≡◌, ◌-◌, ◌≤◌, length}
 use Rattle.answers.proofs.answer_all.Given as goal
 
 abbrev pub invariant-loop-cases : goal.invariant-loop-cases
-invariant-loop-cases l =
+invariant-loop-cases g l =
     (l.at ≤ length l.fn.s) × ((l.cases ≤ length l.fn.s) × (length l.out ≡ length l.s))
 
 abbrev pub decreases-loop-cases : goal.decreases-loop-cases
-decreases-loop-cases l = length l.fn.s - l.cases
+decreases-loop-cases g l = length l.fn.s - l.cases
