@@ -285,7 +285,6 @@ fn comparison_at(i: usize) -> Comparison
     }
 }
 
-#[tactic(auto, unfolding(crate::specs::Argument::comparison_said, crate::specs::Argument::signs, word::specs::Word::padded))]
 fn comparison_said(word: &[u8]) -> Argument
     ensures { result ≡ comparison_said word.now }
 {

@@ -127,7 +127,7 @@ fn make_at(k: usize) -> Make
 
 // As 01 writes them: v a name, x a name or literal (also where 01 writes f), t a type, n a number; w a new name, l a
 // literal, o a comparison, s a text. A match and no table, which would be laid down anew for each line.
-#[tactic(auto, unfolding(crate::specs::Command::command_at, crate::specs::Command::commands, word::specs::Word::padded))]
+#[tactic(auto, unfolding(crate::specs::Command::command_at, crate::specs::Command::commands))]
 fn shape_at(k: usize) -> [u8; 6]
     ensures { result ≡ (command_at k).shape }
 {

@@ -119,7 +119,8 @@ room names line i it e d = go (seek command_words (part line (word_at line i))) 
         by (some n) q e = apart cc
         by none q e =
             let same : item_of (command_at k).make x ≡ it = ap (λ (j : Judgement). item_of_lem j it) e in
-            let new : is_new (form_of (get_or (command_at k).shape 0 0)) ≡ true = sym (right k x) ∙ ap declares same ∙ d in
+            let new : is_new (form_of (get_or (command_at k).shape 0 0)) ≡ true =
+            sym (right k x) ∙ ap declares same ∙ d in
             first_new names line (word_at line i).end (form_of (get_or (command_at k).shape 0 0)) new (first_fine x q)
 
 -- ---- so the names stay few

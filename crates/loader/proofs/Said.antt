@@ -30,8 +30,9 @@ use Rattle.argument.specs.declared.Argument.TheVariants as A
 use Rattle.argument.specs.declared.Form.{Form}
 use Rattle.argument.specs.declared.Form.TheVariants as F
 use Rattle.argument.specs.Holds.{name_of, operand_of, value_of, text_of, wrong_of}
-use Rattle.argument.specs.Argument.{empty_said, known, name_said, fresh, new_said, valued_by, literal_said, known_operand}
-use Rattle.argument.specs.Argument.{literal_operand, operand_said, lettered_by, type_said, numbered_by, number_said, signs}
+use Rattle.argument.specs.Argument.{empty_said, known, name_said, fresh, new_said, valued_by, literal_said}
+use Rattle.argument.specs.Argument.{known_operand, literal_operand, operand_said, lettered_by, type_said, numbered_by}
+use Rattle.argument.specs.Argument.{number_said, signs}
 use Rattle.argument.specs.Argument.{compared_by, comparison_said, said, closed_at, text_at, is_text, stopped, said_at}
 use Rattle.loader.proofs.Room.{is_new, apart, never}
 
@@ -138,7 +139,8 @@ module _ (n size : ℕ) where
   said_fit F.Name names w h = either (name_form w) _ _ (known_fit (seek names w)) (wrong_fit R.BadArguments)
   said_fit F.Operand names w h =
       let row = widen (seek names w) h (seek_below names w) in
-      either (name_form w) _ _ (known_operand_fit (seek names w) row) (literal_operand_fit (literal w) (literal_sound w))
+      either (name_form w) _ _ (known_operand_fit (seek names w) row)
+      (literal_operand_fit (literal w) (literal_sound w))
   said_fit F.Literal names w h = valued_fit (literal w) (literal_sound w)
   said_fit F.Letters names w h = type_fit (read_type w)
   said_fit F.Number names w h = number_fit (small_of w)

@@ -31,7 +31,8 @@ items_more (s ∷ ss) (suc n) x h = ap (λ (l : List Item). s.item ∷ l) (items
 items_ok_lem : (n size : ℕ) (xs : List Item) (x : Item) → items_ok n size xs ≡ true → item_ok n size x ≡ true
     → items_ok n size (xs ++ (x ∷ [])) ≡ true
 items_ok_lem n size [] x h k = simp k
-items_ok_lem n size (y ∷ xs) x h k = go (item_ok n size y) (items_ok n size xs) refl refl (λ q. items_ok_lem n size xs x q k) h
+items_ok_lem n size (y ∷ xs) x h k =
+    go (item_ok n size y) (items_ok n size xs) refl refl (λ q. items_ok_lem n size xs x q k) h
   where
     go : (a b : Bool) → item_ok n size y ≡ a → items_ok n size xs ≡ b
         → (items_ok n size xs ≡ true → items_ok n size (xs ++ (x ∷ [])) ≡ true) → (a && b) ≡ true

@@ -1,5 +1,6 @@
 -- 01, "Script text" and "The checker": form. "10, then lines in order, lowest number within a line, then 11."
-use Rattle.std.specs.Prelude.{Bool, true, false, cond, List, [], ◌∷◌, ◌++◌, ℕ, ◌+◌, ltb, eqb, length, take, set, replicate}
+use Rattle.std.specs.Prelude.{Bool, true, false, cond, List, [], ◌∷◌, ◌++◌, ℕ, ◌+◌, ltb, eqb, length, take, set}
+use Rattle.std.specs.Prelude.{replicate}
 use Rattle.text.specs.Cut.{lines}
 use Rattle.table.specs.declared.Act.{Act}
 use Rattle.table.specs.declared.Item.{Item}

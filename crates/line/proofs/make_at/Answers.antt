@@ -1,3 +1,4 @@
+-- `line::make_at` has the tag for every row past the others. Assumes nothing.
 use borrow.Author.Rules.{rules}
 use Rattle.line.proofs.Rows.{last_make}
 use Rattle.line.proofs.make_at.Goals as goal

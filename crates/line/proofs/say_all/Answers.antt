@@ -31,7 +31,8 @@ module _ (c : After-is_all_over) where
 
 pub returns-then-is_all_over : goal.returns-then-is_all_over
 returns-then-is_all_over c =
-    all (first (goal.at.returns-then-is_all_over c).After-is_all_over) (nothing_left (sym c.is_all_over.ensures ∙ c.if-is_all_over.true))
+    all (first (goal.at.returns-then-is_all_over c).After-is_all_over)
+    (nothing_left (sym c.is_all_over.ensures ∙ c.if-is_all_over.true))
 
 pub returns : goal.returns
 returns c =

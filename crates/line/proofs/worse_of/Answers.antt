@@ -1,3 +1,4 @@
+-- `line::worse_of` compares the two numbers. Assumes nothing.
 use Rattle.line.proofs.Judge as L
 use Rattle.line.proofs.worse_of.Goals as goal
 

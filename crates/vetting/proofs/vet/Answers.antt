@@ -1,3 +1,4 @@
+-- `vetting::vet` tells what the loader refuses, else what the rules do. Assumes nothing.
 use Rattle.vetting.proofs.Vetted.{by_rules, by_loader}
 use Rattle.vetting.proofs.vet.Goals as goal
 
