@@ -104,6 +104,7 @@ fn wide(x: u8) -> usize
 }
 
 // Whether a measuring loop opens at an item.
+#[tactic(auto, unfolding(crate::specs::Code::opens_at))]
 pub fn sweep_at(marks: Marks, p: usize) -> bool
     ensures { result ≡ opens_at is_sweep marks.at p }
 {
@@ -113,6 +114,7 @@ pub fn sweep_at(marks: Marks, p: usize) -> bool
 }
 
 // Whether a loop opens at an item, measuring or not.
+#[tactic(auto, unfolding(crate::specs::Code::opens_at))]
 pub fn loop_at(marks: Marks, p: usize) -> bool
     ensures { result ≡ opens_at is_loop marks.at p }
 {
@@ -122,6 +124,7 @@ pub fn loop_at(marks: Marks, p: usize) -> bool
 }
 
 // Whether a box opens at an item.
+#[tactic(auto, unfolding(crate::specs::Code::opens_at))]
 pub fn open_at(marks: Marks, p: usize) -> bool
     ensures { result ≡ opens_at always marks.at p }
 {
@@ -142,6 +145,7 @@ fn belongs_with(k: Mark, p: usize) -> bool
 }
 
 // The mark at j belongs to the box that opens at p.
+#[tactic(auto, unfolding(crate::specs::Code::belongs_in))]
 pub fn belongs_to(marks: Marks, j: usize, p: usize) -> bool
     ensures { result ≡ belongs_in marks.at j p }
 {
@@ -160,6 +164,7 @@ fn closes_with(k: Mark, p: usize) -> bool
 }
 
 // Past the closing mark of the box that opens at p, or 0.
+#[tactic(auto, using(crate::proofs::Placed::closing), unfolding(crate::specs::Code::closes_in))]
 pub fn close_of(marks: Marks, p: usize) -> usize
     ensures { result ≡ past (close_in marks.at p) }
 {
@@ -175,6 +180,7 @@ pub fn close_of(marks: Marks, p: usize) -> usize
 }
 
 // The place of the first tag among the first n marks, or n; past the marks every place has a tag's.
+#[tactic(auto, using(crate::proofs::Placed::tagging))]
 pub fn first_tag(marks: Marks, n: usize) -> usize
     ensures { result ≡ tag_in marks.at n }
 {

@@ -25,6 +25,7 @@ use Rattle.rules.specs.declared.written.Held as coded
 use Rattle.rules.proofs.Forms.{no, plain_form_lem}
 use Rattle.rules.proofs.Rows.{judged_in, end_in_lem, no_mark_lem, right_form, no_box_left}
 use Rattle.rules.proofs.After.{moved_is, close_inside, deeper_is, deeper_boxed, no_boxes, begins}
+use Rattle.rules.proofs.Noting.{few_items, reached}
 
 -- ---- a finding
 
@@ -277,3 +278,6 @@ module _ (size : ℕ) (t : Table) where
       number_stands Refusal.SameName = refl
       number_stands Refusal.Nested = refl
       number_stands Refusal.Shape = refl
+
+-- what the verdict's function cites, for its attribute
+pub ruleset deciding = (few_items, reached, out_of_shape, says_accepted, says_refused)

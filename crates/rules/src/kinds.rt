@@ -34,6 +34,7 @@ fn float_value(value: Value) -> bool
     }
 }
 
+#[tactic(auto, using(crate::proofs::Sorting::whole_there))]
 fn is_whole(kinds: Sorted, x: Operand) -> bool
     ensures { result ≡ is_whole (kind_in (kind_at (kinds_in kinds)) x) }
 {
@@ -43,6 +44,7 @@ fn is_whole(kinds: Sorted, x: Operand) -> bool
     }
 }
 
+#[tactic(auto, using(crate::proofs::Sorting::float_there))]
 fn is_float(kinds: Sorted, x: Operand) -> bool
     ensures { result ≡ is_float (kind_in (kind_at (kinds_in kinds)) x) }
 {
@@ -54,6 +56,7 @@ fn is_float(kinds: Sorted, x: Operand) -> bool
 
 // ---- the kinds' pass, before any rule is judged
 
+#[tactic(auto, using(crate::proofs::Sorting::none_known))]
 fn no_kinds() -> Sorted
     ensures { kinds_in result ≡ replicate 32 Known.Unknown }
 {
@@ -64,12 +67,14 @@ fn no_kinds() -> Sorted
 }
 
 // A name that has a kind keeps it.
+#[tactic(auto, using(crate::proofs::Sorting::known_there))]
 fn has_kind(kinds: Sorted, n: usize) -> bool
     ensures { result ≡ is_known (kind_at (kinds_in kinds) n) }
 {
     sets::has_name(kinds.whole, n) | sets::has_name(kinds.real, n)
 }
 
+#[tactic(auto, using(crate::proofs::Sorting::whole_learnt))]
 fn learn_whole(kinds: Sorted, n: usize) -> Sorted
     ensures { kinds_in result ≡ learnt (kinds_in kinds) n (Known.Of Kind.Whole) }
 {
@@ -82,6 +87,7 @@ fn learn_whole(kinds: Sorted, n: usize) -> Sorted
     }
 }
 
+#[tactic(auto, using(crate::proofs::Sorting::real_learnt))]
 fn learn_float(kinds: Sorted, n: usize) -> Sorted
     ensures { kinds_in result ≡ learnt (kinds_in kinds) n (Known.Of Kind.Real) }
 {
@@ -121,6 +127,7 @@ fn learn_written(kinds: Sorted, writes: Writes) -> Sorted
 
 // Arithmetic and a copy whose source has no kind write a name with a kind that is its own already or that nobody knows,
 // so they teach nothing.
+#[tactic(auto, using(crate::proofs::Writes::kinds_next, crate::proofs::Writes::kinds_end))]
 pub(crate) fn kinds_of(table: Table) -> Sorted
     requires { table.count ≤ 128 }
     ensures { kinds_in result ≡ kinds_of (replicate 32 Known.Unknown) (items_of table) }

@@ -110,6 +110,7 @@ fn line_of(table: Table, at: usize) -> usize
 }
 
 // The verdict on any table, beside its script's bytes.
+#[tactic(auto, using(crate::proofs::Way::deciding))]
 pub fn check(text: &[u8], table: Table) -> Verdict
     ensures { meaning result ≡ verdict (length text.now) table }
 {

@@ -97,6 +97,7 @@ fn unwritten(a: Around, h: Held, reads: u32, form: Form) -> bool
     sets::any_outside(reads, base_of(a, h, form))
 }
 
+#[tactic(auto, unfolding(crate::specs::Code::mark_in))]
 fn misplaced_mark(a: Around, h: Held, form: Form) -> bool
     ensures { result ≡ mark_in a (holds_of h) form }
 {

@@ -103,6 +103,7 @@ fn with_sure(h: Held, sure: u32) -> Held
     }
 }
 
+#[tactic(auto, unfolding(crate::specs::Code::moved))]
 pub(crate) fn after_item(a: Around, h: Held, writes: u32, form: Form) -> Held
     ensures { holds_of result ≡ moved a (holds_of h) (names_of writes) form }
 {

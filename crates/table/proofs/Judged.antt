@@ -43,3 +43,6 @@ module _ {size : ℕ} {s : Table} {i : ℕ} (before : Judging size s i) where
 
   pub shape_ends : s.count ≤ i → in_shape size s ≡ true
   shape_ends h = before.same ∙ rw (no_items s.count i s.items h)
+
+-- what the test of a table's shape cites, for its attribute
+pub ruleset judging = (too_many_items, too_many_names, shape_starts, shape_next, shape_broken, shape_ends)

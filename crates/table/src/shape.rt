@@ -139,6 +139,7 @@ pub fn item_ok(names: usize, size: usize, item: Item) -> bool
 }
 
 // Whether the table is in shape beside its script's bytes.
+#[tactic(auto, using(crate::proofs::Judged::judging))]
 pub fn in_shape(text: &[u8], table: Table) -> bool
     ensures { result ≡ in_shape (length text.now) table }
 {
