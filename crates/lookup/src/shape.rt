@@ -48,6 +48,7 @@ fn opens_ok(marks: Marks, n: usize, m: State) -> bool
 }
 
 // Whether the state is in shape, for a text of n items.
+#[tactic(auto, unfolding(crate::specs::Lookup::state_in))]
 pub fn state_ok(marks: Marks, n: usize, m: State) -> bool
     ensures { result ≡ state_in marks.at n m }
 {

@@ -12,15 +12,11 @@ use lib.ListN.{length, set, drop, length-drop, drop_of_length-le}
 use borrow.Author.Tests.{ltb-true, ltb-false}
 pub use Rattle.laws.proofs.Bools.{and_t}
 use Rattle.value.specs.declared.Calculated.{Calculated}
-use Rattle.value.specs.declared.Calculated.TheVariants as Calculated
 use Rattle.value.specs.declared.Operation.{Operation}
-use Rattle.value.specs.declared.Operation.TheVariants as Operation
 use Rattle.value.specs.declared.Value.{Value}
-use Rattle.value.specs.declared.Value.TheVariants as Value
 use Rattle.value.specs.Arithmetic.{finite, is_finite, calculated, checked, wholes, reals, is_zero}
 use Rattle.table.specs.declared.Branch.TheVariants as Branch
 use Rattle.table.specs.declared.Item.{Item}
-use Rattle.table.specs.declared.Item.TheVariants as Item
 use Rattle.table.specs.Item.{is_close, is_loop, opens_a}
 use Rattle.table.specs.ReadWrite.{lowest, condition_reads}
 use Rattle.mates.specs.declared.Open.{Open}

@@ -11,30 +11,24 @@ use borrow.Author.Tests.{lt-ltb, lt-leb, le-leb, le-ltb, ltb-true, ltb-false}
 use Rattle.table.specs.declared.Close.TheVariants as Close
 use Rattle.table.specs.declared.Head.TheVariants as Head
 use Rattle.table.specs.declared.Item.{Item}
-use Rattle.table.specs.declared.Item.TheVariants as Item
 use Rattle.table.specs.Item.{is_branch, is_close, is_loop, is_sweep, opens_a}
 use Rattle.table.specs.ReadWrite.{lowest, breaks_order}
 use Rattle.mates.specs.Mates.{item_at, boxes_at, past, close_of}
 use Rattle.state.specs.declared.Answer.TheVariants as Answer
 use Rattle.state.specs.declared.Control.{Control}
-use Rattle.state.specs.declared.Control.TheVariants as Control
 use Rattle.state.specs.declared.Fault.TheVariants as Fault
 use Rattle.state.specs.declared.LoopSort.TheVariants as LoopSort
 use Rattle.state.specs.declared.Offer.{Offer}
-use Rattle.state.specs.declared.Offer.TheVariants as Offer
 use Rattle.state.specs.declared.Status.{Status}
-use Rattle.state.specs.declared.Status.TheVariants as Status
 use Rattle.state.specs.declared.What.TheVariants as What
 use Rattle.state.specs.State as states
 use Rattle.state.specs.State.{Vars, Out, State, Step, said, goto, unskip, cleared, outer}
 use Rattle.state.specs.Meaning.{tops}
 use Rattle.effect.specs.declared.Chosen.{Chosen}
-use Rattle.effect.specs.declared.Chosen.TheVariants as Chosen
 use Rattle.effect.specs.declared.Effect.{Effect}
 use Rattle.effect.specs.declared.Looked.{Looked}
 use Rattle.effect.specs.declared.Spot.{Spot}
 use Rattle.effect.specs.declared.Trouble.{Trouble}
-use Rattle.effect.specs.declared.Trouble.TheVariants as Trouble
 use Rattle.effect.specs.Code as effects
 use Rattle.operands.specs.Code as operands
 use Rattle.steps.specs.Machine as rules

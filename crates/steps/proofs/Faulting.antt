@@ -11,15 +11,12 @@ use Rattle.table.specs.declared.Act.TheVariants as Act
 use Rattle.table.specs.declared.Condition.{Condition}
 use Rattle.table.specs.declared.Head.TheVariants as Head
 use Rattle.table.specs.declared.Item.{Item}
-use Rattle.table.specs.declared.Item.TheVariants as Item
 use Rattle.table.specs.declared.Kind.TheVariants as Kind
 use Rattle.table.specs.declared.Known.TheVariants as Known
 use Rattle.table.specs.declared.Operand.{Operand}
-use Rattle.table.specs.declared.Operand.TheVariants as Operand
 use Rattle.table.specs.declared.Pack.TheVariants as Pack
 use Rattle.table.specs.ReadWrite.{lowest, condition_reads, missing, wrong, gone, kind_in, differ}
 use Rattle.state.specs.declared.Cell.{Cell}
-use Rattle.state.specs.declared.Cell.TheVariants as Cell
 use Rattle.state.specs.State as states
 use Rattle.state.specs.State.{Vars, cell_at, cell_kind, is_written, written, kind_now}
 use Rattle.state.specs.Meaning.{tops, fault_number}
@@ -28,7 +25,6 @@ use Rattle.operands.specs.declared.Cells.{Cells}
 use Rattle.effect.specs.declared.Need.TheVariants as Need
 use Rattle.effect.specs.declared.Spot.{Spot}
 use Rattle.effect.specs.declared.Trouble.{Trouble}
-use Rattle.effect.specs.declared.Trouble.TheVariants as Trouble
 use Rattle.effect.specs.Code as effects
 use Rattle.operands.specs.Code as operands
 use Rattle.steps.specs.Machine.{inside, too_deep, reads}

@@ -11,7 +11,6 @@ use Rattle.table.specs.declared.Table.{Table}
 use Rattle.table.specs.ReadWrite.{lowest}
 use Rattle.table.specs.Shape.{in_shape, items_of}
 use Rattle.state.specs.declared.Control.{Control}
-use Rattle.state.specs.declared.Control.TheVariants as Control
 use Rattle.state.specs.declared.Offer.{Offer}
 use Rattle.state.specs.State.{State, Status, live, finishedRun, stoppedRun, faultRun, Step, Meets, ready, short, amiss}
 use Rattle.state.specs.State.{wantsNothing, wanted_by, meets, cleared}

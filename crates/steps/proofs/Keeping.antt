@@ -10,9 +10,7 @@ use Rattle.table.specs.declared.Table.{Table}
 use Rattle.table.specs.ReadWrite.{lowest}
 use Rattle.table.specs.Shape.{items_of, in_shape}
 use Rattle.state.specs.declared.Control.{Control}
-use Rattle.state.specs.declared.Control.TheVariants as Control
 use Rattle.state.specs.declared.Offer.{Offer}
-use Rattle.state.specs.declared.Offer.TheVariants as Offer
 use Rattle.state.specs.State.{State, Status, live, finishedRun, stoppedRun, faultRun, Out, Step, Meets, ready, short}
 use Rattle.state.specs.State.{amiss, wantsNothing, wanted_by, meets, cleared, flagged, is_held, stays, Answer, running}
 use Rattle.state.specs.State.{waiting, finished, stopped, fault, refuse}

@@ -12,21 +12,14 @@ use lib.ListN.{length, get_or, set, drop, length-drop, drop_of_length-le}
 use lib.Seq.{drop-cons}
 use borrow.Author.Tests.{ltb-true, ltb-false, lt-ltb}
 use Rattle.value.specs.declared.Calculated.{Calculated}
-use Rattle.value.specs.declared.Calculated.TheVariants as Calculated
 use Rattle.value.specs.declared.Value.{Value}
-use Rattle.value.specs.declared.Value.TheVariants as Value
 use Rattle.value.specs.Arithmetic.{finite, calculated, checked}
 use Rattle.table.specs.declared.Act.{Act}
-use Rattle.table.specs.declared.Act.TheVariants as Act
 use Rattle.table.specs.declared.Close.{Close}
-use Rattle.table.specs.declared.Close.TheVariants as Close
 use Rattle.table.specs.declared.Head.{Head}
-use Rattle.table.specs.declared.Head.TheVariants as Head
 use Rattle.table.specs.declared.Item.{Item}
-use Rattle.table.specs.declared.Item.TheVariants as Item
 use Rattle.table.specs.declared.Operand.TheVariants as Operand
 use Rattle.table.specs.declared.Pack.{Pack}
-use Rattle.table.specs.declared.Pack.TheVariants as Pack
 use Rattle.table.specs.declared.Table.{Table}
 use Rattle.table.specs.declared.Sweep.{Sweep}
 use Rattle.table.specs.Item.{is_open, is_loop, is_sweep, opens_a, sort_of}
@@ -35,11 +28,8 @@ use Rattle.table.specs.Shape.{in_shape, items_of, items_ok, item_ok}
 use Rattle.mates.specs.Mates.{boxes_at, close_of, item_at, past}
 use Rattle.state.specs.declared.Cell.TheVariants as Cell
 use Rattle.state.specs.declared.Control.{Control}
-use Rattle.state.specs.declared.Control.TheVariants as Control
 use Rattle.state.specs.declared.LoopSort.{LoopSort}
-use Rattle.state.specs.declared.LoopSort.TheVariants as LoopSort
 use Rattle.state.specs.declared.Offer.{Offer}
-use Rattle.state.specs.declared.Offer.TheVariants as Offer
 use Rattle.state.specs.State.{measures, Vars, cell_at, cell_type, value_of, holds, write, da, ba, eb, State, Status, live}
 use Rattle.state.specs.State.{finishedRun, stoppedRun, faultRun, Out, Step, Meets, ready, short, amiss, goto, keep}
 use Rattle.state.specs.State.{unskip, end_with, reading, code0010, wantsNothing, wanted_by, meets, cleared, cells_ok}

@@ -14,11 +14,9 @@ use Rattle.laws.proofs.Least.{least_below, least_most}
 use Rattle.laws.proofs.Bools.{no'}
 use Rattle.table.specs.declared.Condition.{Condition}
 use Rattle.table.specs.declared.Operand.{Operand}
-use Rattle.table.specs.declared.Operand.TheVariants as Operand
 use Rattle.table.specs.declared.Branch.TheVariants as Branch
 use Rattle.table.specs.declared.Head.TheVariants as Head
 use Rattle.table.specs.declared.Item.{Item}
-use Rattle.table.specs.declared.Item.TheVariants as Item
 use Rattle.table.specs.declared.Slot.{Slot}
 use Rattle.table.specs.declared.Table.{Table}
 use Rattle.table.specs.Item.{is_tag}
@@ -37,12 +35,9 @@ use Rattle.effect.specs.declared.Effect.{Effect}
 use Rattle.operands.specs.declared.Places.{Places}
 use Rattle.effect.specs.declared.Spot.{Spot}
 use Rattle.operands.specs.declared.Written.{Written}
-use Rattle.operands.specs.declared.Written.TheVariants as Written
 use Rattle.operands.specs.declared.Operands.{Operands}
 use Rattle.operands.specs.declared.Cells.{Cells}
 use Rattle.effect.specs.declared.Tried.{Tried}
-use Rattle.effect.specs.declared.Tried.TheVariants as Tried
-use Rattle.state.specs.declared.Cell.TheVariants as Cell
 use Rattle.state.specs.declared.Cell.{Cell}
 use Rattle.state.specs.declared.Var.{Var}
 use Rattle.steps.specs.Machine as rules

@@ -7,7 +7,6 @@ use borrow.Author.Tests.{eqb-true}
 use Rattle.table.specs.declared.Condition.{Condition}
 use Rattle.table.specs.declared.Head.TheVariants as Head
 use Rattle.table.specs.declared.Item.{Item}
-use Rattle.table.specs.declared.Item.TheVariants as Item
 use Rattle.mates.specs.Mates.{close_of, past}
 use Rattle.state.specs.declared.LoopSort.{LoopSort}
 use Rattle.state.specs.declared.Offer.{Offer}

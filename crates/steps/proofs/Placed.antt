@@ -7,7 +7,6 @@ use mathlib.Core.Option.{Option, none, some}
 use lib.Dec.{eqb, eqb-suc-zero}
 use lib.ListN.{get_or}
 use Rattle.table.specs.declared.Item.{Item}
-use Rattle.table.specs.declared.Item.TheVariants as Item
 use Rattle.table.specs.Item.{is_open, is_branch, is_close, is_loop, is_sweep, opens_a}
 use Rattle.mates.specs.Mates.{boxes_at, close_of, item_at, past}
 use Rattle.state.specs.State.{State, Out}

@@ -3,7 +3,6 @@ use mathlib.Core.Path.{◌≡◌, refl}
 use mathlib.Core.List.{List}
 use Rattle.table.specs.declared.Item.{Item}
 use Rattle.state.specs.declared.Control.{Control}
-use Rattle.state.specs.declared.Control.TheVariants as Control
 use Rattle.state.specs.State as rules
 use Rattle.state.specs.Meaning.{state_of, Neat}
 use Rattle.state.specs.declared.State as coded

@@ -9,23 +9,17 @@ use lib.Dec.{eqb, ltb, eqb-suc-zero}
 use lib.ListN.{length, get_or}
 use borrow.Author.Tests.{lt-ltb}
 use Rattle.value.specs.declared.Calculated.{Calculated}
-use Rattle.value.specs.declared.Calculated.TheVariants as Calculated
 use Rattle.value.specs.declared.Value.TheVariants as Value
 use Rattle.value.specs.Arithmetic.{finite, calculated, checked}
 use Rattle.table.specs.declared.Act.{Act}
-use Rattle.table.specs.declared.Act.TheVariants as Act
 use Rattle.table.specs.declared.Item.{Item}
 use Rattle.table.specs.declared.Operand.{Operand}
-use Rattle.table.specs.declared.Operand.TheVariants as Operand
 use Rattle.table.specs.declared.Pack.{Pack}
-use Rattle.table.specs.declared.Pack.TheVariants as Pack
 use Rattle.table.specs.declared.Sweep.{Sweep}
 use Rattle.mates.specs.Mates.{past, close_of}
 use Rattle.state.specs.declared.Cell.TheVariants as Cell
 use Rattle.state.specs.declared.LoopSort.{LoopSort}
-use Rattle.state.specs.declared.LoopSort.TheVariants as LoopSort
 use Rattle.state.specs.declared.Offer.{Offer}
-use Rattle.state.specs.declared.Offer.TheVariants as Offer
 use Rattle.state.specs.declared.Point.{Point}
 use Rattle.state.specs.declared.Stop.TheVariants as Stop
 use Rattle.state.specs.declared.What.TheVariants as What
@@ -34,10 +28,8 @@ use Rattle.state.specs.State.{Vars, cell_at, cell_value, value_of, Out, State, s
 use Rattle.state.specs.Meaning.{tops}
 use Rattle.state.proofs.Boxes.{tops_push}
 use Rattle.effect.specs.declared.Chosen.{Chosen}
-use Rattle.effect.specs.declared.Chosen.TheVariants as Chosen
 use Rattle.effect.specs.declared.Spot.{Spot}
 use Rattle.operands.specs.declared.Written.{Written}
-use Rattle.operands.specs.declared.Written.TheVariants as Written
 use Rattle.effect.specs.Code as effects
 use Rattle.operands.specs.Code as operands
 use Rattle.steps.specs.Machine as rules

@@ -12,12 +12,10 @@ use lib.ListN.{length, drop, drop_of_length-le}
 use lib.Seq.{drop-cons}
 use Rattle.table.specs.declared.Head.TheVariants as Head
 use Rattle.table.specs.declared.Item.{Item}
-use Rattle.table.specs.declared.Item.TheVariants as Item
 use Rattle.table.specs.Item.{is_open, is_tag, is_loop, opens_a}
 use Rattle.table.specs.ReadWrite.{lowest, missing, wrong, breaks_order}
 use Rattle.mates.specs.Mates.{item_at}
 use Rattle.state.specs.declared.Fault.{Fault}
-use Rattle.state.specs.declared.Fault.TheVariants as Fault
 use Rattle.state.specs.declared.Offer.{Offer}
 use Rattle.state.specs.State.{State, Step, faults_by, wanted_by, meets, holds, written, kind_now}
 use Rattle.state.specs.Meaning.{fault_number}

@@ -6,27 +6,19 @@ use mathlib.Core.List.{List, [], ◌∷◌, ◌++◌}
 use lib.ListN.{length}
 use native.Mathlib.Omega.{arith}
 use Rattle.value.specs.declared.Calculated.{Calculated}
-use Rattle.value.specs.declared.Calculated.TheVariants as Calculated
 use Rattle.value.specs.declared.Value.TheVariants as Value
 use Rattle.value.specs.Arithmetic.{finite, calculated, checked}
 use Rattle.table.specs.declared.Act.{Act}
-use Rattle.table.specs.declared.Act.TheVariants as Act
 use Rattle.table.specs.declared.Close.{Close}
-use Rattle.table.specs.declared.Close.TheVariants as Close
 use Rattle.table.specs.declared.Head.{Head}
-use Rattle.table.specs.declared.Head.TheVariants as Head
 use Rattle.table.specs.declared.Item.{Item}
-use Rattle.table.specs.declared.Item.TheVariants as Item
 use Rattle.table.specs.declared.Operand.TheVariants as Operand
 use Rattle.table.specs.declared.Pack.{Pack}
-use Rattle.table.specs.declared.Pack.TheVariants as Pack
 use Rattle.table.specs.declared.Sweep.{Sweep}
 use Rattle.table.specs.Item.{is_sweep, opens_a, is_loop}
 use Rattle.mates.specs.Mates.{item_at}
 use Rattle.state.specs.declared.LoopSort.{LoopSort}
-use Rattle.state.specs.declared.LoopSort.TheVariants as LoopSort
 use Rattle.state.specs.declared.Offer.{Offer}
-use Rattle.state.specs.declared.Offer.TheVariants as Offer
 use Rattle.state.specs.State.{keep, write, da, ba, State, Out, Step, cell_at, cell_type, value_of, eb, reading, holds}
 use Rattle.state.specs.State.{is_held, enters, leaves}
 use Rattle.steps.specs.Machine.{Chosen, into, beyond, bad, kept, run_act, run_pack, otherwise, chosen, run_sweep}

@@ -3,38 +3,29 @@
 use Rattle.std.specs.Prelude.{ℕ, suc, ◌≤◌, ◌<◌, ◌≡◌, Bool, true, false, not, ◌&&◌, cond, List, [], ◌∷◌, ◌++◌, eqb, ltb, leb, length, set}
 use Rattle.std.proofs.Math.Option.{Option, none, some}
 use Rattle.table.specs.declared.Head.{Head}
-use Rattle.table.specs.declared.Head.TheVariants as Head
 use Rattle.table.specs.declared.Item.{Item}
-use Rattle.table.specs.declared.Item.TheVariants as Item
 use Rattle.table.specs.declared.Operand.{Operand}
-use Rattle.table.specs.declared.Operand.TheVariants as Operand
 use Rattle.table.specs.Item.{is_open, is_sweep, opens_a}
 use Rattle.mates.specs.Mates.{boxes_at, belongs, close_of, item_at, past}
 use Rattle.state.specs.declared.Cell.{Cell}
-use Rattle.state.specs.declared.Cell.TheVariants as Cell
 use Rattle.state.specs.declared.Control.{Control}
 use Rattle.state.specs.declared.Offer.{Offer}
 use Rattle.state.specs.declared.Status.{Status}
-use Rattle.state.specs.declared.Status.TheVariants as Status
 use Rattle.state.specs.declared.Stepped.{Stepped}
 use Rattle.state.specs.declared.Var.{Var}
 use Rattle.state.specs.declared.What.{What}
-use Rattle.state.specs.declared.What.TheVariants as What
 use Rattle.state.specs.State.{Vars, cell_at, Out, State, Step, holds, stays, flagged, outer}
 use Rattle.state.specs.Meaning.{state_of, cells_of, status_of, answer_of, out_of, fault_number, tops, meaning, Neat, Blank}
 use Rattle.state.specs.declared.State as coded
 use Rattle.effect.specs.declared.Around.{Around}
 use Rattle.operands.specs.declared.Cells.{Cells}
 use Rattle.effect.specs.declared.Chosen.{Chosen}
-use Rattle.effect.specs.declared.Chosen.TheVariants as Chosen
 use Rattle.effect.specs.declared.Effect.{Effect}
 use Rattle.effect.specs.declared.Looked.{Looked}
 use Rattle.operands.specs.declared.Operands.{Operands}
 use Rattle.effect.specs.declared.Spot.{Spot}
 use Rattle.effect.specs.declared.Tried.{Tried}
-use Rattle.effect.specs.declared.Tried.TheVariants as Tried
 use Rattle.operands.specs.declared.Written.{Written}
-use Rattle.operands.specs.declared.Written.TheVariants as Written
 use Rattle.operands.specs.Code as operands
 use Rattle.steps.specs.Machine as rules
 use Rattle.steps.specs.Machine.{tried, otherwise, inside, any_open, unwind, astray, is_none, again, moved, told}

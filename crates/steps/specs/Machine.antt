@@ -15,21 +15,15 @@
 use Rattle.std.specs.Prelude.{ℕ, zero, suc, Bool, true, false, not, ◌&&◌, ◌||◌, cond, List, [], ◌∷◌, ◌++◌, eqb, ltb, leb, length, set, drop, Float}
 use Rattle.std.proofs.Math.Option.{Option, none, some}
 use Rattle.value.specs.declared.Calculated.{Calculated}
-use Rattle.value.specs.declared.Calculated.TheVariants as Calculated
 use Rattle.value.specs.declared.Value.TheVariants as Value
 use Rattle.value.specs.Arithmetic.{finite, calculated, checked}
 use Rattle.table.specs.declared.Act.{Act}
-use Rattle.table.specs.declared.Act.TheVariants as Act
 use Rattle.table.specs.declared.Branch.TheVariants as Branch
 use Rattle.table.specs.declared.Close.{Close}
-use Rattle.table.specs.declared.Close.TheVariants as Close
 use Rattle.table.specs.declared.Head.{Head}
-use Rattle.table.specs.declared.Head.TheVariants as Head
 use Rattle.table.specs.declared.Item.{Item}
-use Rattle.table.specs.declared.Item.TheVariants as Item
 use Rattle.table.specs.declared.Operand.TheVariants as Operand
 use Rattle.table.specs.declared.Pack.{Pack}
-use Rattle.table.specs.declared.Pack.TheVariants as Pack
 use Rattle.table.specs.declared.Table.{Table}
 use Rattle.table.specs.declared.Sort.{Sort}
 use Rattle.table.specs.declared.Sweep.{Sweep}
@@ -41,9 +35,7 @@ use Rattle.mates.specs.declared.Open.{Open}
 use Rattle.mates.specs.Mates.{scan, boxes_at, belongs, close_of, item_at, past}
 use Rattle.state.specs.declared.Control.{Control}
 use Rattle.state.specs.declared.LoopSort.{LoopSort}
-use Rattle.state.specs.declared.LoopSort.TheVariants as LoopSort
 use Rattle.state.specs.declared.Offer.{Offer}
-use Rattle.state.specs.declared.Offer.TheVariants as Offer
 use Rattle.state.specs.State.{measures, Vars, cell_at, cell_type, cell_value, written, kind_now, value_of, holds, write, da}
 use Rattle.state.specs.State.{ba, eb, cells_ok, Status, live, finishedRun, stoppedRun, faultRun, code0028, code0010}
 use Rattle.state.specs.State.{State, goto, keep, unskip, end_with, packing, pend, told_in, cleared, Out, enters, leaves}
