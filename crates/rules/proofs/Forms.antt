@@ -68,6 +68,7 @@ head_sort (Head.Sweep w) = by (eqb w.potential w.current)
     by false = refl
 
 -- what is not wrong has its plain form
-pub plain_form_lem : {f : Form} (wrongs : Bool) (x : Item) → f ≡ form_by wrongs x → is_wrong f ≡ false → f ≡ plain_form x
+pub plain_form_lem : {f : Form} (wrongs : Bool) (x : Item) → f ≡ form_by wrongs x
+    → is_wrong f ≡ false → f ≡ plain_form x
 plain_form_lem true x e h = no (sym (ap is_wrong e) ∙ h)
 plain_form_lem false x e h = e

@@ -14,7 +14,8 @@ use Rattle.table.specs.declared.Item.{Item}
 use Rattle.table.specs.declared.Slot.{Slot}
 use Rattle.table.specs.declared.Table.{Table}
 use Rattle.table.specs.ReadWrite.{Kinds, Names, reads_of, writes_of}
-use Rattle.table.specs.Shape.{no_slot, slot_at, items_in, items_of, reads_ok, writes_ok, own_ok, item_ok, items_ok, in_shape}
+use Rattle.table.specs.Shape.{no_slot, slot_at, items_in, items_of, reads_ok, writes_ok, own_ok, item_ok}
+use Rattle.table.specs.Shape.{items_ok, in_shape}
 use Rattle.table.proofs.Items.{drop-items, no_items}
 use Rattle.sets.specs.Names.{either, outside, names_of}
 use Rattle.sets.proofs.Bits.{length-names}

@@ -115,7 +115,8 @@ module _ {k : Kinds} {x : Item} {reads writes : ℕ} {f : Form} (n : Noted k x r
         g.twice
         (ap₂ (λ (p q : Bool). p && q) g.sweeps (b.swept (holds_of h)))
 
-    pub judged_in : lowest (rows_in a (holds_of h) (names_of reads) f) ≡ lowest (refusals k (state_of a (holds_of h) bs) x)
+    pub judged_in : lowest (rows_in a (holds_of h) (names_of reads) f)
+        ≡ lowest (refusals k (state_of a (holds_of h) bs) x)
     judged_in =
         ap (λ (g : Form). lowest (rows_in a (holds_of h) (names_of reads) g)) n.form
         ∙ by (wrong_both (kind_at k) (reads_of x) (writes_of x)) refl

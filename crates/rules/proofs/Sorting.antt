@@ -99,7 +99,8 @@ set-whole (a ∷ s) [] (suc n) = refl
 set-whole (a ∷ s) (b ∷ t) zero = refl
 set-whole (a ∷ s) (b ∷ t) (suc n) = ap (λ (l : Kinds). kind_by a b ∷ l) (set-whole s t n)
 
-set-real : (s t : Names) (n : ℕ) → has s n ≡ false → kinds_by s (set t n true) ≡ set (kinds_by s t) n (Known.Of Kind.Real)
+set-real : (s t : Names) (n : ℕ) → has s n ≡ false
+    → kinds_by s (set t n true) ≡ set (kinds_by s t) n (Known.Of Kind.Real)
 unfolding kinds_by
 set-real [] t n h = refl
 set-real (a ∷ s) [] n h = refl

@@ -1,6 +1,7 @@
 -- The rules (01, The checker: 30 and 19 to 26) as one walk over the items in order. The state before an item is what
 -- `after` made of the items before it; each rule is a row, its number and its test, and the lowest that holds is given.
-use Rattle.std.specs.Prelude.{ℕ, zero, suc, Bool, true, false, not, ◌&&◌, ◌||◌, cond, List, [], ◌∷◌, eqb, ltb, leb, length, set, replicate}
+use Rattle.std.specs.Prelude.{ℕ, zero, suc, Bool, true, false, not, ◌&&◌, ◌||◌, cond, List, [], ◌∷◌, eqb, ltb}
+use Rattle.std.specs.Prelude.{leb, length, set, replicate}
 use Rattle.table.specs.declared.Act.{Act}
 use Rattle.table.specs.declared.Head.{Head}
 use Rattle.table.specs.declared.Branch.{Branch}
@@ -10,8 +11,10 @@ use Rattle.table.specs.declared.Sort.{Sort}
 use Rattle.table.specs.declared.Known.{Known}
 use Rattle.table.specs.declared.Kind.TheVariants as Kind
 use Rattle.table.specs.declared.Write.{Write}
-use Rattle.table.specs.Item.{sort_of, is_open, is_branch, is_close, is_break, is_tag, is_else, is_loop, is_sweep, opens_a, fits}
-use Rattle.table.specs.ReadWrite.{Kinds, kind_at, kind_in, Names, has, reads_of, writes_of, act_writes, head_writes, wrong}
+use Rattle.table.specs.Item.{sort_of, is_open, is_branch, is_close, is_break, is_tag, is_else, is_loop}
+use Rattle.table.specs.Item.{is_sweep, opens_a, fits}
+use Rattle.table.specs.ReadWrite.{Kinds, kind_at, kind_in, Names, has, reads_of, writes_of, act_writes}
+use Rattle.table.specs.ReadWrite.{head_writes, wrong}
 use Rattle.table.specs.ReadWrite.{wrong_write, missing, breaks_order, packs, lowest}
 use Rattle.table.specs.Shape.{slot_at, items_of, in_shape}
 use Rattle.sets.specs.Names.{nothing, everything, both, put}

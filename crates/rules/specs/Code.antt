@@ -1,7 +1,8 @@
 -- What only the code's shape needs: kinds as two sets of names, items in brief, the innermost open box apart from those
 -- around it, and the checker on its way, the verdict still to come from a place, which block checker and item checker
 -- keep.
-use Rattle.std.specs.Prelude.{ℕ, zero, suc, ◌≤◌, ◌<◌, ◌≡◌, Bool, true, false, not, ◌&&◌, ◌||◌, cond, List, [], ◌∷◌, eqb, leb, length, get_or, set, drop}
+use Rattle.std.specs.Prelude.{ℕ, zero, suc, ◌≤◌, ◌<◌, ◌≡◌, Bool, true, false, not, ◌&&◌, ◌||◌, cond, List, []}
+use Rattle.std.specs.Prelude.{◌∷◌, eqb, leb, length, get_or, set, drop}
 use Rattle.table.specs.declared.Item.{Item}
 use Rattle.table.specs.declared.Table.{Table}
 use Rattle.table.specs.declared.Pack.{Pack}
