@@ -44,6 +44,7 @@ fn loop_depth(marks: Marks, s: Spot) -> usize
 }
 
 // The mark that leaving the box at p hands out, where it is a loop's.
+#[tactic(auto, unfolding(crate::specs::Lookup::leave_of))]
 pub fn leave_mark(marks: Marks, p: usize) -> What
     ensures { result ≡ leave_of marks.at p }
 {
@@ -118,6 +119,7 @@ fn around_break(marks: Marks, sweeping: bool, s: Spot) -> Around
 }
 
 // What the marks say around the item x, where the run stands at it.
+#[tactic(auto, unfolding(crate::specs::Lookup::around_in))]
 pub fn around_of(marks: Marks, s: Spot, x: Item) -> Around
     ensures { result ≡ around_in marks.at s x }
 {
@@ -134,6 +136,7 @@ pub fn around_of(marks: Marks, s: Spot, x: Item) -> Around
 }
 
 // What the item x at j leads to, tried where it belongs to the box that opens at p.
+#[tactic(auto, unfolding(crate::specs::Lookup::tried_in))]
 pub fn try_at(marks: Marks, x: Item, k: Cells, p: usize, j: usize) -> Tried
     ensures { result ≡ tried_in marks.at x k p j }
 {
