@@ -20,7 +20,6 @@ use Rattle.state.proofs.Things.{outs-set, outs-length}
 use Rattle.effect.specs.Code as effects
 use Rattle.effect.specs.declared.Effect.{Effect}
 use Rattle.effect.specs.declared.Spot.{Spot}
-use Rattle.state.specs.declared.What.TheVariants as What
 use Rattle.state.specs.declared.Thing.{Thing}
 use Rattle.state.specs.declared.What.{What}
 use Rattle.steps.specs.Machine.{leave_outs}

@@ -15,7 +15,6 @@ use Rattle.table.proofs.Items.{next_item}
 use Rattle.mates.specs.declared.Mark.{Mark}
 use Rattle.mates.specs.declared.Marks.{Marks}
 use Rattle.mates.specs.declared.Role.{Role}
-use Rattle.mates.specs.declared.Role.TheVariants as Role
 use Rattle.mates.specs.Code.{Marked, role_of, roles_of, marks_of}
 use Rattle.mates.proofs.Roles.{roles_more}
 use Rattle.mates.proofs.Scanned.{marked}

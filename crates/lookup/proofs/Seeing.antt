@@ -9,7 +9,6 @@ use Rattle.laws.specs.Least.{least}
 use Rattle.laws.proofs.Bools.{no}
 use Rattle.table.specs.declared.Head.{Head}
 use Rattle.table.specs.declared.Item.{Item}
-use Rattle.table.specs.declared.Item.TheVariants as Item
 use Rattle.table.specs.Item.{is_open, is_branch, is_close, is_break, is_loop, is_sweep, opens_a}
 use Rattle.mates.specs.declared.Mark.{Mark}
 use Rattle.mates.specs.Mates.{belongs, boxes_at, close_of, item_at}

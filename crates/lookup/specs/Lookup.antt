@@ -2,14 +2,12 @@
 use Rattle.std.specs.Prelude.{ℕ, Bool, true, false, not, ◌&&◌, ◌||◌, cond, List, [], ◌∷◌, eqb, ltb, leb, length}
 use Rattle.laws.specs.Least.{least}
 use Rattle.table.specs.declared.Item.{Item}
-use Rattle.table.specs.declared.Item.TheVariants as Item
 use Rattle.table.specs.Item.{is_loop, is_sweep}
 use Rattle.mates.specs.declared.Mark.{Mark}
 use Rattle.mates.specs.Mates.{past}
 use Rattle.mates.specs.Code.{always, opens_at, belongs_in, close_in}
 use Rattle.state.specs.declared.LoopSort.TheVariants as LoopSort
 use Rattle.state.specs.declared.What.{What}
-use Rattle.state.specs.declared.What.TheVariants as What
 use Rattle.state.specs.State.{cells_ok}
 use Rattle.state.specs.Meaning.{cells_of, tops}
 use Rattle.state.specs.declared.State as coded
@@ -17,7 +15,6 @@ use Rattle.operands.specs.declared.Cells.{Cells}
 use Rattle.effect.specs.declared.Around.{Around}
 use Rattle.effect.specs.declared.Spot.{Spot}
 use Rattle.effect.specs.declared.Tried.{Tried}
-use Rattle.effect.specs.declared.Tried.TheVariants as Tried
 use Rattle.effect.specs.Code.{try_mate}
 
 -- ---- the state's shape

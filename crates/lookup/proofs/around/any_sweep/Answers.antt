@@ -1,6 +1,5 @@
 -- `any_sweep` walks the open boxes from the innermost outwards, and stops at a measuring loop. Assumes nothing.
 use mathlib.Core.Path.{sym, ◌∙◌}
-use Rattle.laws.specs.Least.{least}
 use Rattle.laws.proofs.Least.{least_most}
 use Rattle.lookup.proofs.Walks.{walk_starts, walk_stops, walk_on, walk_ends}
 use Rattle.lookup.proofs.around.any_sweep.Goals as goal

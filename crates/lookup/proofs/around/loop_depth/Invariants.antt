@@ -1,5 +1,4 @@
 -- `loop_depth` walks the open boxes from the innermost outwards, and stops at a loop. Assumes nothing.
-use Prim.Native.Nat.{◌-◌}
 use Rattle.laws.specs.Least.{least}
 use Rattle.lookup.specs.Lookup.{to_loop}
 use Rattle.lookup.proofs.Walks.{Walk}
