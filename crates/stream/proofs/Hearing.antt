@@ -5,7 +5,6 @@ use Rattle.std.proofs.Common.{true≢false, add-zero, arith, le_refl, length-app
 use Rattle.std.proofs.Common.{take-add, drop_at}
 use lib.Seq.{take-append-le}
 use borrow.Rule.Slice.PartMut.{put_mid, post_of}
-use Rattle.io.specs.Counts.{IsPrefixLen}
 use Rattle.std.proofs.KnownBytes.{Consumes-trans}
 use Rattle.std.proofs.lemmas.Slice.{take-put_mid_below}
 use Rattle.std.specs.Io.{ReadsAtMost}
@@ -102,7 +101,3 @@ module _ (size room : ℕ) (buf new : List ℕ) (in_buf : size ≤ length buf) (
           let nothing = (subst (λ r. ReadConsumes b c r new) none taken).1 refl (omega (arith, all, full, more)) in
           subst (λ i. Within i now × Takes a c i now) (sym same)
           ((stands, sym (length-take-le size now stands)), (taken_all, λ _. nothing))
-
--- What a caller knows of the bytes that came.
-pub came : {input : Input} {n : ℕ} → input ≡ Input.Bytes n → (bytes : List ℕ) → Within input bytes → IsPrefixLen n bytes
-came e bytes h = subst (λ i. Within i bytes) e h
