@@ -1,6 +1,5 @@
 use borrow.Author.Rules.{rules}
-use Prim.Native.Nat.{◌-◌}
-use lib.ListN.{length, length-set}
+use lib.ListN.{length-set}
 use Rattle.case_text.proofs.read.bytes.Goals as goal
 
 pub loop-n-preserved : goal.loop-n-preserved
