@@ -74,6 +74,7 @@ fn next_line(reply: &[u8], at: usize) -> NextLine
 }
 
 // The verdict on a whole reply, for a table of n rows. Nothing is written.
+#[tactic(auto, using(crate::proofs::Lines::stands))]
 fn judge(reply: &[u8], n: usize) -> Answer
     ensures { result ≡ verdict n reply.now }
 {

@@ -1,11 +1,10 @@
--- `judge` goes through the lines in order. What is known at a place of a round is said at the place; a need cites it.
--- Assumes nothing.
+-- `judge` goes through the lines in order. What a round's line does is said once; the answers cite it. Assumes nothing.
 use borrow.Author.Rules.{rules}
 use borrow.Author.Tests.{lt-leb, le-leb}
 use mathlib.Core.Path.{sym, ◌∙◌}
 use native.Mathlib.Omega.{arith}
 use Rattle.reply_step.specs.Meaning.{meant, stepped}
-use Rattle.reply.proofs.Lines.{stands, Round, place, goes_on, ends_here, refused_here, no_line}
+use Rattle.reply.proofs.Lines.{Round, place, goes_on, ends_here, refused_here, no_line}
 use Rattle.reply.proofs.Lines.{no_more}
 use Rattle.reply.specs.Reply.{verdict}
 use Rattle.reply.proofs.judge.Goals as goal
@@ -40,21 +39,6 @@ returns-in_default c =
     let none = sym c.in_default.is ∙ c.next_line.ensures in
     sym (no_line _ _ _ _ _ c.loop-at.invariant.within none) ∙ c.loop-at.invariant.same
 
-pub slice_bounds-line_at-count : goal.slice_bounds-line_at-count
-slice_bounds-line_at-count c =
-    let p = stands _ _ _ _ _ (sym c.in-Text.is ∙ c.next_line.ensures) in
-    omega (arith, p.start, p.end)
-
-pub slice_bounds-line_at-start : goal.slice_bounds-line_at-start
-slice_bounds-line_at-start c =
-    let p = stands _ _ _ _ _ (sym c.in-Text.is ∙ c.next_line.ensures) in
-    omega (arith, p.start, p.end)
-
-pub slice_bounds-line_at-end : goal.slice_bounds-line_at-end
-slice_bounds-line_at-end c =
-    let p = stands _ _ _ _ _ (sym c.in-Text.is ∙ c.next_line.ensures) in
-    omega (arith, p.more)
-
 pub returns-in-Ends : goal.returns-in-Ends
 returns-in-Ends c =
     sym (ends_here (round (goal.at.returns-in-Ends c).After-step_of-step) c.in-Ends.is) ∙ c.loop-at.invariant.same
@@ -63,9 +47,6 @@ pub returns-in-Refused : goal.returns-in-Refused
 returns-in-Refused c =
     sym (refused_here (round (goal.at.returns-in-Refused c).After-step_of-step) c.in-Refused.is)
     ∙ c.loop-at.invariant.same
-
-pub overflow_add-k : goal.overflow_add-k
-overflow_add-k c = omega (arith, c.loop-at.invariant)
 
 pub loop-at-smaller : goal.loop-at-smaller
 loop-at-smaller c = omega (arith, place (round (goal.at.loop-at-smaller c).After-step_of-step))

@@ -1,5 +1,4 @@
--- `judge` goes through the lines in order. What is known at a place of a round is said at the place; a need cites it.
--- Assumes nothing.
+-- `judge` goes through the lines in order: the verdict that is still to come is the whole's. Assumes nothing.
 use lib.ListN.{length, drop}
 use mathlib.Core.List.{List}
 use mathlib.Core.Path.{◌≡◌}

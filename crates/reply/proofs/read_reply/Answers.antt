@@ -1,4 +1,4 @@
--- `read_reply` makes a turn a line. Assumes nothing.
+-- `read_reply` makes a turn a line. The turn is said once; the answers cite it. Assumes nothing.
 use lib.ListN.{length, length-set}
 use mathlib.Core.Path.{refl, ◌∙◌}
 use Rattle.reply.proofs.Coming.{come_first, Taken, take_on, take_less, come_end, come_says}

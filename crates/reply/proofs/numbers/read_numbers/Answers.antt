@@ -1,5 +1,4 @@
--- `read_numbers` makes a turn a line. What is known at a place of a turn is said at the place; a need cites it. Assumes
--- nothing.
+-- `read_numbers` makes a turn a line. The turn is said once; the answers cite it. Assumes nothing.
 use lib.ListN.{length}
 use mathlib.Core.List.{List}
 use mathlib.Core.Path.{◌≡◌, refl, ◌∙◌, ap}

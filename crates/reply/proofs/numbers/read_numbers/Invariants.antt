@@ -1,4 +1,4 @@
--- `read_numbers` makes a turn a line. What is known at a place of a turn is said at the place; a need cites it. Assumes
+-- `read_numbers` makes a turn a line: what is still to come is the whole, in as many numbers as were lent. Assumes
 -- nothing.
 use lib.ListN.{length}
 use mathlib.Core.List.{List}
