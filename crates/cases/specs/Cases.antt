@@ -5,11 +5,9 @@ use Rattle.std.specs.Float.{fin}
 use Rattle.text.specs.Bytes.{ascii}
 use Rattle.crc.specs.Crc.{crc}
 use Rattle.value.specs.declared.Literal.{Literal}
-use Rattle.value.specs.declared.Literal.TheVariants as Literal
 use Rattle.value.specs.declared.Value.TheVariants as Value
 use Rattle.value.specs.Literal.{literal}
 use Rattle.package.specs.declared.Amount.{Amount}
-use Rattle.package.specs.declared.Amount.TheVariants as Amount
 use Rattle.package.specs.declared.Metadatum.TheVariants as Metadatum
 use Rattle.package.specs.Package.{Reading, parts, refused, package_of}
 use Rattle.loader.specs.Load.{Outcome, refusal, accepted, empty_table, loaded}
