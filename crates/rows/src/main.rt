@@ -73,10 +73,19 @@ fn say(err: &impl Eprint, text: &str) {
     let _ = err.eprintln(text);
 }
 
+// A pipe that nobody reads any further is no failure to speak of.
+fn say_unwritten(err: &impl Eprint, error: io::Error) {
+    match error.kind() {
+        io::ErrorKind::BrokenPipe => {}
+        _ => say(err, "rows: standard output could not be written"),
+    }
+}
+
 fn list(rt: &(impl Print + Eprint), reply: &[u8]) {
     let table = reply::read_table(reply);
-    if put_table(rt, table).is_err() {
-        say(rt, "rows: standard output could not be written");
+    match put_table(rt, table) {
+        Ok(_) => {}
+        Err(error) => say_unwritten(rt, error),
     }
 }
 

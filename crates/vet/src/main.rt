@@ -22,9 +22,18 @@ fn say(err: &impl Eprint, text: &str) {
     let _ = err.eprintln(text);
 }
 
+// A pipe that nobody reads any further is no failure to speak of.
+fn say_unwritten(err: &impl Eprint, error: io::Error) {
+    match error.kind() {
+        io::ErrorKind::BrokenPipe => {}
+        _ => say(err, "vet: standard output could not be written"),
+    }
+}
+
 fn judge(rt: &(impl Print + Eprint), text: &[u8]) {
-    if put_told(rt, vet(text)).is_err() {
-        say(rt, "vet: standard output could not be written");
+    match put_told(rt, vet(text)) {
+        Ok(_) => {}
+        Err(error) => say_unwritten(rt, error),
     }
 }
 
