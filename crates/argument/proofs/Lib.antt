@@ -1,3 +1,4 @@
+mod Apart
 pub mod Signs
 pub mod Past
 pub mod Refusals

@@ -21,6 +21,15 @@ abbrev pub Others : List ℕ → ℕ → Type 0
 Others [] x = Unit {0}
 Others (k ∷ ks) x = Others ks x × (x ≡ k → ⊥)
 
+-- the numbers below n
+abbrev pub below : ℕ → List ℕ
+below zero = []
+below (suc n) = n ∷ below n
+
+pub past : (n x : ℕ) → Others (below n) x → n ≤ x
+past zero x o = omega arith
+past (suc n) x o = omega (arith, past n x o.0, o.1)
+
 -- ---- the rows from n on
 
 from_row : (n k : ℕ) (cs : List Command) → n ≤ k → get_or cs k tag_command ≡ get_or (drop n cs) (k - n) tag_command
