@@ -19,8 +19,6 @@ use Rattle.state.specs.Meaning.{state_of, answer_of, status_of, outs_of, cells_o
 use Rattle.state.proofs.Rests.{blank_thing}
 use Rattle.effect.specs.declared.Effect.{Effect}
 use Rattle.effect.specs.declared.Spot.{Spot}
-use Rattle.state.specs.declared.Control.TheVariants as Control
-use Rattle.state.specs.declared.Offer.TheVariants as Offer
 use Rattle.state.specs.declared.Control.{Control}
 use Rattle.state.specs.declared.Offer.{Offer}
 use Rattle.state.specs.declared.Status.{Status}

@@ -12,7 +12,6 @@ use borrow.Author.Tests.{leb-false, ne_eqb}
 use Rattle.table.specs.declared.Head.{Head}
 use Rattle.table.specs.declared.Close.{Close}
 use Rattle.table.specs.declared.Item.{Item}
-use Rattle.table.specs.declared.Item.TheVariants as Item
 use Rattle.table.specs.Item.{sort_of, is_open, is_close, fits}
 use Rattle.table.specs.ReadWrite.{Kinds, Names}
 use Rattle.mates.specs.declared.Open.{Open}

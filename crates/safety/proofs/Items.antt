@@ -9,26 +9,18 @@ use lib.Dec.{ltb}
 use lib.ListN.{set}
 use borrow.Author.Tests.{not-false, not-true}
 use Rattle.value.specs.declared.Value.{Value}
-use Rattle.value.specs.declared.Value.TheVariants as Value
 use Rattle.value.specs.declared.Calculated.{Calculated}
-use Rattle.value.specs.declared.Calculated.TheVariants as Calculated
 use Rattle.value.specs.Arithmetic.{finite, checked, calculated}
 use Rattle.table.specs.declared.Operand.TheVariants as Operand
 use Rattle.table.specs.declared.Condition.{Condition}
 use Rattle.table.specs.declared.Sweep.{Sweep}
 use Rattle.table.specs.declared.Act.{Act}
-use Rattle.table.specs.declared.Act.TheVariants as Act
 use Rattle.table.specs.declared.Pack.{Pack}
-use Rattle.table.specs.declared.Pack.TheVariants as Pack
 use Rattle.table.specs.declared.Head.{Head}
-use Rattle.table.specs.declared.Head.TheVariants as Head
 use Rattle.table.specs.declared.Branch.{Branch}
 use Rattle.table.specs.declared.Close.{Close}
-use Rattle.table.specs.declared.Close.TheVariants as Close
 use Rattle.table.specs.declared.Item.{Item}
-use Rattle.table.specs.declared.Item.TheVariants as Item
 use Rattle.state.specs.declared.LoopSort.{LoopSort}
-use Rattle.state.specs.declared.LoopSort.TheVariants as LoopSort
 use Rattle.table.specs.declared.Kind.TheVariants as Kind
 use Rattle.table.specs.declared.Known.TheVariants as Known
 use Rattle.table.specs.declared.Write.TheVariants as Write
@@ -39,9 +31,7 @@ use Rattle.mates.specs.Mates.{item_at}
 use Rattle.rules.proofs.Placed.{Box}
 use Rattle.sets.specs.Names.{put}
 use Rattle.state.specs.declared.Cell.{Cell}
-use Rattle.state.specs.declared.Cell.TheVariants as Cell
 use Rattle.state.specs.declared.Offer.{Offer}
-use Rattle.state.specs.declared.Offer.TheVariants as Offer
 use Rattle.state.specs.State.{Vars, cell_at, is_written, cell_kind, cell_value, cell_type, value_of, holds, da, ba, eb}
 use Rattle.state.specs.State.{code0028, code0010, State, leaves, Answer, running, waiting, finished, stopped, fault}
 use Rattle.state.specs.State.{refuse, Step, goto, keep, unskip, said, stops_by, reading, cell_ok}

@@ -8,15 +8,11 @@ use mathlib.Core.Option.{Option, some}
 use native.Mathlib.Omega.{arith}
 use lib.Dec.{eqb}
 use borrow.Author.Tests.{ne_eqb, eq-eqb}
-use Rattle.value.specs.Arithmetic.{rest}
 use Rattle.table.specs.declared.Head.{Head}
 use Rattle.table.specs.declared.Branch.{Branch}
-use Rattle.table.specs.declared.Branch.TheVariants as Branch
 use Rattle.table.specs.declared.Close.{Close}
 use Rattle.table.specs.declared.Item.{Item}
-use Rattle.table.specs.declared.Item.TheVariants as Item
 use Rattle.table.specs.declared.Sort.{Sort}
-use Rattle.table.specs.declared.Sort.TheVariants as Sort
 use Rattle.table.specs.declared.Read.{Read}
 use Rattle.table.specs.Item.{sort_of, is_else, is_loop, fits}
 use Rattle.table.specs.ReadWrite.{condition_reads, Kinds, kind_at, wrong, Names, has, missing, lowest}

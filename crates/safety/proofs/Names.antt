@@ -9,18 +9,13 @@ use lib.ListN.{length, set, replicate, length-set}
 use lib.Seq.{get_or-set_same}
 use borrow.Author.Tests.{not-false}
 use Rattle.table.specs.declared.Operand.{Operand}
-use Rattle.table.specs.declared.Operand.TheVariants as Operand
 use Rattle.table.specs.declared.Kind.{Kind}
-use Rattle.table.specs.declared.Kind.TheVariants as Kind
 use Rattle.table.specs.declared.Known.{Known}
-use Rattle.table.specs.declared.Known.TheVariants as Known
 use Rattle.table.specs.declared.Read.{Read}
-use Rattle.table.specs.declared.Read.TheVariants as Read
 use Rattle.table.specs.ReadWrite.{kind_of, alike_kind, differ, Kinds, kind_at, kind_in, wrong, Names, has, gone, missing}
 use Rattle.rules.specs.Check.{is_known}
 use Rattle.rules.proofs.Placed.{Box}
 use Rattle.state.specs.declared.Cell.{Cell}
-use Rattle.state.specs.declared.Cell.TheVariants as Cell
 use Rattle.state.specs.State.{Vars, cell_at, is_written, cell_kind, cell_value, written, kind_now, cell_ok, cells_ok}
 use Rattle.safety.proofs.Laws.{no', or_l, or_r, or_f, AfterSet, get_d_set, get_or-rep}
 use Rattle.safety.proofs.Sure.{Within}

@@ -13,9 +13,7 @@ use Rattle.state.specs.declared.LoopSort.TheVariants as LoopSort
 use Rattle.loader.specs.Load.{loaded}
 use Rattle.rules.specs.Check.{accepted, verdict}
 use Rattle.state.specs.declared.Control.{Control}
-use Rattle.state.specs.declared.Control.TheVariants as Control
 use Rattle.state.specs.declared.Offer.{Offer}
-use Rattle.state.specs.declared.Offer.TheVariants as Offer
 use Rattle.state.specs.State.{da, ba, code0010, State, Out, enters, leaves, packStart, packEnd, pack_part, says, waits}
 use Rattle.state.specs.State.{setsE, sets_mode, switches_cell, Answer, running, waiting, finished, stopped, refuse}
 use Rattle.state.specs.State.{fresh}

@@ -11,7 +11,6 @@ use Rattle.laws.proofs.Lists.{drop-get_or}
 use Rattle.table.specs.declared.Condition.{Condition}
 use Rattle.table.specs.declared.Head.TheVariants as Head
 use Rattle.table.specs.declared.Item.{Item}
-use Rattle.table.specs.declared.Item.TheVariants as Item
 use Rattle.table.specs.declared.Read.{Read}
 use Rattle.table.specs.Item.{is_open, is_loop, opens_a, fits}
 use Rattle.table.specs.ReadWrite.{act_reads, reads_of, Kinds, wrong, Names, missing, lowest}

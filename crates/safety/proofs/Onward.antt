@@ -9,7 +9,6 @@ use lib.ListN.{length, replicate}
 use borrow.Author.Tests.{eqb-true}
 use Rattle.table.specs.declared.Item.{Item}
 use Rattle.table.specs.declared.Known.{Known}
-use Rattle.table.specs.declared.Known.TheVariants as Known
 use Rattle.table.specs.declared.Table.{Table}
 use Rattle.table.specs.Shape.{in_shape, items_of}
 use Rattle.table.specs.ReadWrite.{lowest}

@@ -4,9 +4,7 @@ use mathlib.Core.Path.{refl}
 use mathlib.Core.List.{List, ◌∷◌, ◌++◌}
 use lib.ListN.{replicate}
 use Rattle.state.specs.declared.Control.{Control}
-use Rattle.state.specs.declared.Control.TheVariants as Control
 use Rattle.state.specs.declared.Offer.{Offer}
-use Rattle.state.specs.declared.Offer.TheVariants as Offer
 use Rattle.safety.specs.Safety.{Reaches}
 use Rattle.safety.specs.Texts.{unwritten, unlike, stray, deep, loose, after_loop, after_sweep, after_tag}
 use Rattle.safety.specs.Texts.{after_if, after_copy}

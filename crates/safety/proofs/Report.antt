@@ -17,7 +17,6 @@ use Rattle.loader.specs.Load.{loaded, meaning as loadedMeaning}
 use Rattle.loader.proofs.Walk.{not_zero}
 use Rattle.rules.specs.declared.Refusal.{Refusal as Rule}
 use Rattle.rules.specs.declared.Verdict.{Verdict as Judgement}
-use Rattle.rules.specs.declared.Verdict.TheVariants as Judgement
 use Rattle.rules.specs.Check.{Verdict, accepted, refused, verdict}
 use Rattle.rules.specs.Verdict.{number_of as ruleNumber, meaning as verdictMeaning}
 use Rattle.state.specs.declared.Control.{Control}

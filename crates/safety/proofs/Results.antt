@@ -6,13 +6,10 @@ use mathlib.Core.Bool.{Bool, true, false, cond}
 use lib.IntN.{ℤ, pos, negsuc}
 use lib.Ieee.{Float, binary64}
 use Rattle.value.specs.declared.Value.{Value}
-use Rattle.value.specs.declared.Value.TheVariants as Value
 use Rattle.value.specs.declared.Operation.{Operation}
-use Rattle.value.specs.declared.Operation.TheVariants as Operation
 use Rattle.value.specs.declared.Calculated.TheVariants as Calculated
 use Rattle.value.specs.Arithmetic.{finite, is_finite, is_zero, checked, wholes, reals, calculated}
 use Rattle.table.specs.declared.Kind.{Kind}
-use Rattle.table.specs.declared.Kind.TheVariants as Kind
 use Rattle.table.specs.ReadWrite.{kind_of}
 
 abbrev pub OfKind : Kind → Value → Type 0

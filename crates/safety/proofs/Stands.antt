@@ -11,7 +11,6 @@ use borrow.Author.Tests.{leb-false, ne_eqb, eq-eqb, lt-ltb, le-leb}
 use Rattle.laws.proofs.Lists.{drop-get_or}
 use Rattle.table.specs.declared.Head.{Head}
 use Rattle.table.specs.declared.Item.{Item}
-use Rattle.table.specs.declared.Item.TheVariants as Item
 use Rattle.table.specs.Item.{is_open, is_loop, opens_a}
 use Rattle.table.specs.ReadWrite.{writes_of, Kinds, kind_at, Names}
 use Rattle.mates.specs.declared.Open.{Open}

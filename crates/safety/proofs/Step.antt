@@ -9,15 +9,12 @@ use native.Mathlib.Omega.{arith}
 use lib.ListN.{length, drop}
 use borrow.Author.Tests.{le-leb, not-true}
 use Rattle.table.specs.declared.Item.{Item}
-use Rattle.table.specs.declared.Item.TheVariants as Item
 use Rattle.table.specs.Item.{is_sweep}
 use Rattle.table.specs.ReadWrite.{Kinds, Names, lowest}
 use Rattle.rules.specs.Check.{is_empty}
 use Rattle.rules.proofs.Placed.{Box, Placed, plains}
 use Rattle.state.specs.declared.Control.{Control}
-use Rattle.state.specs.declared.Control.TheVariants as Control
 use Rattle.state.specs.declared.Offer.{Offer}
-use Rattle.state.specs.declared.Offer.TheVariants as Offer
 use Rattle.state.specs.State.{State, Out, Step, said, Meets, ready, short, amiss, wantsNothing, wanted_by, meets}
 use Rattle.state.specs.State.{cleared, flagged}
 use Rattle.steps.specs.Machine.{is_empty as noneOpen, any_open, leave_outs, is_none, next, run, served, finish, at_item}

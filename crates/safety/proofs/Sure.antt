@@ -11,18 +11,12 @@ use lib.Seq.{get_or-set_same}
 use borrow.Author.Tests.{not-false}
 use Rattle.table.specs.declared.Operand.TheVariants as Operand
 use Rattle.table.specs.declared.Act.{Act}
-use Rattle.table.specs.declared.Act.TheVariants as Act
 use Rattle.table.specs.declared.Head.{Head}
-use Rattle.table.specs.declared.Head.TheVariants as Head
 use Rattle.table.specs.declared.Item.{Item}
-use Rattle.table.specs.declared.Item.TheVariants as Item
 use Rattle.table.specs.declared.Sort.{Sort}
-use Rattle.table.specs.declared.Sort.TheVariants as Sort
 use Rattle.table.specs.declared.Kind.TheVariants as Kind
 use Rattle.table.specs.declared.Known.{Known}
-use Rattle.table.specs.declared.Known.TheVariants as Known
 use Rattle.table.specs.declared.Write.{Write}
-use Rattle.table.specs.declared.Write.TheVariants as Write
 use Rattle.table.specs.ReadWrite.{act_reads, reads_of, act_writes, head_writes, writes_of, Kinds, kind_at, kind_in, Names}
 use Rattle.table.specs.ReadWrite.{has, gone, missing}
 use Rattle.table.specs.Shape.{writes_ok, item_ok}

@@ -5,7 +5,6 @@ use mathlib.Core.Bool.{cond}
 use mathlib.Core.List.{List}
 use lib.Dec.{eqb, ltb}
 use Rattle.argument.specs.declared.Refusal.{Refusal}
-use Rattle.argument.specs.declared.Refusal.TheVariants as Refusal
 use Rattle.argument.specs.Refusal.{number_of as formNumber}
 use Rattle.rules.proofs.Tight.{rule_of}
 use Rattle.rules.specs.declared.Refusal.TheVariants as Rule
@@ -15,7 +14,6 @@ use Rattle.course.specs.Course.{Course, steps_of, course_of}
 use Rattle.state.proofs.Tight.{same_state}
 use Rattle.course.proofs.Tight.{SizedRun, same_ran}
 use Rattle.safety.specs.declared.Judged.{Judged}
-use Rattle.safety.specs.declared.Judged.TheVariants as Judged
 use Rattle.safety.specs.declared.Checked.{Checked}
 use Rattle.safety.specs.Outcome.{Outcome, ExactOutcome, number_of, line_of, meaning}
 

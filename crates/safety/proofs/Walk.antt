@@ -11,10 +11,8 @@ use Rattle.table.specs.declared.Operand.{Operand}
 use Rattle.table.specs.declared.Branch.{Branch}
 use Rattle.table.specs.declared.Close.{Close}
 use Rattle.table.specs.declared.Item.{Item}
-use Rattle.table.specs.declared.Item.TheVariants as Item
 use Rattle.table.specs.declared.Known.TheVariants as Known
 use Rattle.table.specs.declared.Write.{Write}
-use Rattle.table.specs.declared.Write.TheVariants as Write
 use Rattle.table.specs.Item.{is_open, is_tag, fits}
 use Rattle.table.specs.ReadWrite.{reads_of, writes_of, Kinds, kind_at, wrong, wrong_write, Names, has, missing}
 use Rattle.table.specs.ReadWrite.{breaks_order, lowest}

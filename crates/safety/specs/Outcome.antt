@@ -15,7 +15,6 @@ use Rattle.course.specs.Course.{Course, run_from, course_of, BlankRun}
 use Rattle.course.specs.Parts.{followed, Call, Called, steps_of_all, course_of_all}
 use Rattle.safety.specs.Safety.{Promises, all_allowed}
 use Rattle.safety.specs.declared.Judged.{Judged}
-use Rattle.safety.specs.declared.Judged.TheVariants as Judged
 use Rattle.safety.specs.declared.Checked.{Checked}
 
 -- 01's number and line, both 0 where the script is accepted

@@ -62,8 +62,8 @@ loop-found-preserved c =
 pub loop-k-init : goal.loop-k-init
 loop-k-init c =
     let effect =
-        effected c.loop-found.invariant.trying c.tries_on.ensures c.loop-found-test.false c.chosen_by.ensures
-        c.around_of.result c.around_of.ensures c.effect_of-e.ensures
+    effected c.loop-found.invariant.trying c.tries_on.ensures c.loop-found-test.false c.chosen_by.ensures
+    c.around_of.result c.around_of.ensures c.effect_of-e.ensures
     in
     leaves_start
     (two_laid {e = c.effect_of-e.result} c.loop-found.invariant.ready c.things_in-handed.ensures
@@ -79,8 +79,8 @@ loop-k-preserved c =
 pub loop-i-preserved : goal.loop-i-preserved
 loop-i-preserved c =
     let effect =
-        effected c.loop-found.invariant.trying c.tries_on.ensures c.loop-found-test.false c.chosen_by.ensures
-        c.around_of.result c.around_of.ensures c.effect_of-e.ensures
+    effected c.loop-found.invariant.trying c.tries_on.ensures c.loop-found-test.false c.chosen_by.ensures
+    c.around_of.result c.around_of.ensures c.effect_of-e.ensures
     in
     let wide : length c.effect_of-e.result.spot.boxes ≡ 8 = c.effect_of-e.type_inv.1.1.0.1.1.1.0.1.0.1 in
     rounds_on c.loop-found.invariant.round c.loop-found.invariant.more

@@ -50,8 +50,8 @@ loop-found-preserved c =
 pub loop-k-init : goal.loop-k-init
 loop-k-init c =
     let effect =
-        effected c.loop-found.invariant.trying c.tries_on.ensures c.loop-found-test.false c.chosen_by.ensures
-        c.around_of.result c.around_of.ensures c.effect_of-e.ensures
+    effected c.loop-found.invariant.trying c.tries_on.ensures c.loop-found-test.false c.chosen_by.ensures
+    c.around_of.result c.around_of.ensures c.effect_of-e.ensures
     in
     leaves_start
     (two_laid {e = c.effect_of-e.result} (none_yet c.no_things-things.ensures) c.things_in-handed.ensures
@@ -66,8 +66,8 @@ loop-k-preserved c =
 pub returns : goal.returns
 returns c =
     let effect =
-        effected c.loop-found.invariant.trying c.tries_on.ensures c.loop-found-test.false c.chosen_by.ensures
-        c.around_of.result c.around_of.ensures c.effect_of-e.ensures
+    effected c.loop-found.invariant.trying c.tries_on.ensures c.loop-found-test.false c.chosen_by.ensures
+    c.around_of.result c.around_of.ensures c.effect_of-e.ensures
     in
     one_turn effect.head c.loop-found.invariant.stands
     (made effect

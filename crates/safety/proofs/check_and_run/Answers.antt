@@ -1,5 +1,4 @@
 -- `safety::check_and_run` meets its contract: what the checker says, and what the run comes to where it accepts.
-use borrow.Author.Rules.{rules}
 use lib.ListN.{length}
 use mathlib.Core.Path.{◌≡◌, sym, ap, ◌∙◌}
 use Prim.Native.Nat.{ℕ}

@@ -16,5 +16,4 @@ returns c = (
     neat = c.fresh-state.ensures.neat;
     blank = record { few = zero-le; answers = refl; few_things = zero-le; things = refl };
   },
-
 )
