@@ -86,7 +86,8 @@ pub told_few : (n k : ℕ) (ts : List Told) → length ts ≡ 64
     → take (least (least n k) 64) (all_told ts) ≡ take n (take k (all_told ts))
 told_few n k ts h =
     least_takes (least n k) 64 (all_told ts)
-    ∙ ap (λ (l : List (Control × Offer)). take (least n k) l) (take_all 64 (all_told ts) (omega (arith, told-length ts)))
+    ∙ ap (λ (l : List (Control × Offer)). take (least n k) l) (take_all 64 (all_told ts) (omega
+        (arith, told-length ts)))
     ∙ least_takes n k (all_told ts)
 
 -- ---- the shape lasts
@@ -137,7 +138,8 @@ pub record Come
   pub laid : Laid 512 hs h (take h (outs_of hs))
   pub below : h ≤ 8 * i
   pub known : Known b size t m
-  pub so_far : joined (take i ss) (take h (outs_of hs)) (run_from size t m (drop i (take n (all_told ts)))) ≡ run_from size
+  pub so_far : joined (take i ss) (take h (outs_of hs)) (run_from size t m (drop i (take n (all_told ts))))
+      ≡ run_from size
       t (state_of m₀) (take n (all_told ts))
   pub blank_answers : drop i ss ≡ replicate (64 - i) no_said
   pub stays_so : stayed ≡ all_stay (state_of m₀).status (answers_of (take i ss))

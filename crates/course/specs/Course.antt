@@ -1,6 +1,7 @@
 -- Steps taken one after the other (01, The machine): each step's answer and how many things it handed out, all the
 -- things in order, and the state after the last step.
-use Rattle.std.specs.Prelude.{ℕ, ◌-◌, ◌≤◌, ◌≡◌, Bool, true, false, ◌&&◌, List, [], ◌∷◌, ◌++◌, length, take, drop, replicate}
+use Rattle.std.specs.Prelude.{ℕ, ◌-◌, ◌≤◌, ◌≡◌, Bool, true, false, ◌&&◌, List, [], ◌∷◌, ◌++◌, length, take, drop}
+use Rattle.std.specs.Prelude.{replicate}
 use Rattle.table.specs.declared.Item.{Item}
 use Rattle.table.specs.declared.Table.{Table}
 use Rattle.table.specs.Shape.{items_of}

@@ -25,7 +25,8 @@ use Rattle.table.specs.declared.Kind.TheVariants as Kind
 use Rattle.table.specs.declared.Known.TheVariants as Known
 use Rattle.table.specs.declared.Write.TheVariants as Write
 use Rattle.table.specs.Item.{sort_of, is_loop, is_sweep, opens_a}
-use Rattle.table.specs.ReadWrite.{act_writes, head_writes, kind_of, differ, Kinds, kind_at, wrong_write, Names, has, gone}
+use Rattle.table.specs.ReadWrite.{act_writes, head_writes, kind_of, differ, Kinds, kind_at, wrong_write, Names, has}
+use Rattle.table.specs.ReadWrite.{gone}
 use Rattle.table.specs.Shape.{writes_ok}
 use Rattle.mates.specs.Mates.{item_at}
 use Rattle.rules.proofs.Placed.{Box}

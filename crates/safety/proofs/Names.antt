@@ -12,7 +12,8 @@ use Rattle.table.specs.declared.Operand.{Operand}
 use Rattle.table.specs.declared.Kind.{Kind}
 use Rattle.table.specs.declared.Known.{Known}
 use Rattle.table.specs.declared.Read.{Read}
-use Rattle.table.specs.ReadWrite.{kind_of, alike_kind, differ, Kinds, kind_at, kind_in, wrong, Names, has, gone, missing}
+use Rattle.table.specs.ReadWrite.{kind_of, alike_kind, differ, Kinds, kind_at, kind_in, wrong, Names, has, gone}
+use Rattle.table.specs.ReadWrite.{missing}
 use Rattle.rules.specs.Check.{is_known}
 use Rattle.rules.proofs.Placed.{Box}
 use Rattle.state.specs.declared.Cell.{Cell}

@@ -17,7 +17,8 @@ use Rattle.table.specs.declared.Sort.{Sort}
 use Rattle.table.specs.declared.Kind.TheVariants as Kind
 use Rattle.table.specs.declared.Known.{Known}
 use Rattle.table.specs.declared.Write.{Write}
-use Rattle.table.specs.ReadWrite.{act_reads, reads_of, act_writes, head_writes, writes_of, Kinds, kind_at, kind_in, Names}
+use Rattle.table.specs.ReadWrite.{act_reads, reads_of, act_writes, head_writes, writes_of, Kinds, kind_at, kind_in}
+use Rattle.table.specs.ReadWrite.{Names}
 use Rattle.table.specs.ReadWrite.{has, gone, missing}
 use Rattle.table.specs.Shape.{writes_ok, item_ok}
 use Rattle.sets.specs.Names.{everything, both, put}
@@ -38,7 +39,8 @@ AllWithin (b ∷ bs) k = Within b.before k × AllWithin bs k
 abbrev Giving : Kinds → List Write → Type 0
 Giving k [] = Unit {0}
 Giving k (Write.Like n x ∷ gs) =
-    (n < 32) × (is_known (kind_in (kind_at k) x) ≡ true) × Giving (set k n (or_else (kind_at k n) (kind_in (kind_at k) x))) gs
+    (n < 32) × (is_known (kind_in (kind_at k) x) ≡ true) × Giving (set k n (or_else (kind_at k n) (kind_in
+        (kind_at k) x))) gs
 Giving k (Write.Float n ∷ gs) = (n < 32) × Giving (set k n (or_else (kind_at k n) (Known.Of Kind.Real))) gs
 
 known_or : (a b : Known) → is_known b ≡ true → is_known (or_else a b) ≡ true

@@ -31,7 +31,8 @@ form_of n =
     (cond (eqb n 17) Refusal.DeclaredTwice Refusal.TooManyNames)))))))
 
 judged_of : ℕ → ℕ → Judged
-judged_of n k = cond (eqb n 0) Judged.Accepted (cond (ltb n 19) (Judged.Form (form_of n) k) (Judged.Rules (rule_of n) k))
+judged_of n k = cond (eqb n 0) Judged.Accepted (cond (ltb n 19) (Judged.Form (form_of n) k) (Judged.Rules
+    (rule_of n) k))
 
 judged_back : (j : Judged) → judged_of (number_of j) (line_of j) ≡ j
 unfolding judged_of form_of formNumber

@@ -17,7 +17,8 @@ use Rattle.table.specs.Item.{is_open, is_tag, fits}
 use Rattle.table.specs.ReadWrite.{reads_of, writes_of, Kinds, kind_at, wrong, wrong_write, Names, has, missing}
 use Rattle.table.specs.ReadWrite.{breaks_order, lowest}
 use Rattle.table.specs.Shape.{operand_ok, reads_ok, writes_ok, own_ok, item_ok, items_ok}
-use Rattle.rules.specs.Check.{learn, kinds_of, Held, begin, is_empty, base, misplaced, refusals, refusals_at_end, Verdict}
+use Rattle.rules.specs.Check.{learn, kinds_of, Held, begin, is_empty, base, misplaced, refusals, refusals_at_end}
+use Rattle.rules.specs.Check.{Verdict}
 use Rattle.rules.specs.Check.{accepted, or_go, walk}
 use Rattle.rules.proofs.Placed.{Box, Placed, at_start, plains, bare, length-plains, after, same_walk}
 use Rattle.rules.proofs.Writes.{learns}

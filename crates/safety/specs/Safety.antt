@@ -3,7 +3,8 @@
 -- sort is refused by 31 and changes nothing. After every step it is running, waiting, finished, or stopped by 0028 or
 -- 0010. It never gets 30 and
 -- never reaches one of the faults 60 to 64.
-use Rattle.std.specs.Prelude.{ℕ, ◌≡◌, Bool, true, false, ◌&&◌, ◌||◌, cond, List, [], ◌∷◌, ◌++◌, eqb, length, replicate, drop}
+use Rattle.std.specs.Prelude.{ℕ, ◌≡◌, Bool, true, false, ◌&&◌, ◌||◌, cond, List, [], ◌∷◌, ◌++◌, eqb, length, replicate}
+use Rattle.std.specs.Prelude.{drop}
 use Rattle.table.specs.declared.Item.{Item}
 use Rattle.table.specs.declared.Table.{Table}
 use Rattle.table.specs.Shape.{items_of}

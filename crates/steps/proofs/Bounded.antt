@@ -30,9 +30,11 @@ use Rattle.steps.proofs.Shapes.{and_l, and_r, room}
 
 -- ---- places
 
-close_within_lem : (p j : ℕ) (st : List Open) (ys : List Item) (k : ℕ) → close_from p j st ys ≡ some k → k < j + length ys
+close_within_lem : (p j : ℕ) (st : List Open) (ys : List Item) (k : ℕ) → close_from p j st ys ≡ some k
+    → k < j + length ys
 close_within_lem p j st [] k e = absurd (true≢false (ap is_none e))
-close_within_lem p j st (y ∷ ys) k e = go (is_close y && belongs p y st) refl (close_within_lem p (suc j) (scan j y st) ys k)
+close_within_lem p j st (y ∷ ys) k e = go (is_close y && belongs p y st) refl (close_within_lem p (suc j)
+    (scan j y st) ys k)
   where
     go : (b : Bool) → (is_close y && belongs p y st) ≡ b
         → (close_from p (suc j) (scan j y st) ys ≡ some k → k < suc j + length ys) → k < j + suc (length ys)
@@ -57,7 +59,8 @@ past_within xs p = go (close_of xs p) refl
             let f : close_from p p (boxes_at xs p) [] ≡ some k = rw d at e in
             absurd (true≢false (ap is_none f))
         pick false q =
-            omega (arith, close_within_lem p p (boxes_at xs p) (drop p xs) k e, length-drop p xs, ltb-false (length xs) p q)
+            omega (arith, close_within_lem p p (boxes_at xs p) (drop p xs) k e, length-drop p xs, ltb-false
+                (length xs) p q)
 
 abbrev pub Within : Chosen → ℕ → Type 0
 Within (into i) n = i ≤ n

@@ -34,7 +34,8 @@ use Rattle.operands.specs.Code as operands
 use Rattle.steps.specs.Machine as rules
 use Rattle.steps.specs.Machine.{unwind, leave_outs, strays, astray, too_deep, faults, next, bad_of, tag_from, ahead}
 use Rattle.steps.specs.Machine.{served, or_fault, told, any_open}
-use Rattle.steps.specs.Code.{state_with, live_state, step_of, Reads, chosen_of, chosen_at, close_top, sweep_top, open_at}
+use Rattle.steps.specs.Code.{state_with, live_state, step_of, Reads, chosen_of, chosen_at, close_top, sweep_top}
+use Rattle.steps.specs.Code.{open_at}
 use Rattle.steps.specs.Code.{Surrounds, or_last, Here, LooksUp, step_known}
 use Rattle.steps.proofs.Loops.{if_chosen}
 use Rattle.steps.proofs.Placed.{fault_mark}
@@ -56,7 +57,8 @@ unwind_loop xs (q ∷ ps) p qs e = go (opens_a is_loop (item_at xs q)) refl (λ 
         let k : q ≡ p = cc in
         rw (← k) f
 
-    go : (b : Bool) → opens_a is_loop (item_at xs q) ≡ b → (unwind xs ps ≡ p ∷ qs → opens_a is_loop (item_at xs p) ≡ true)
+    go : (b : Bool) → opens_a is_loop (item_at xs q) ≡ b → (unwind xs ps ≡ p ∷ qs
+        → opens_a is_loop (item_at xs p) ≡ true)
         → opens_a is_loop (item_at xs p) ≡ true
     go true f r = same f (rw f at e)
     go false f r = r (rw f at e)
@@ -183,7 +185,8 @@ module _ {xs : List Item} {vs : Vars} {s : Spot} {k : Looked} (os : List Out) (l
 
     unless_is : (c : Chosen) (z : rules.Chosen) → chosen_of c ≡ z → (q : states.Meets) (e : Effect) (t : Step)
         → step_of os vs e ≡ t
-        → step_of os vs (effects.unless (effects.chosen_fault c) s (effects.served before s q e)) ≡ or_fault (bad_of z) run
+        → step_of os vs (effects.unless (effects.chosen_fault c) s (effects.served before s q e))
+            ≡ or_fault (bad_of z) run
         (served (live_state vs before) run q t)
     unless_is (Chosen.Into i) z p q e t f = rw (← p) (served_is q e t f)
     unless_is (Chosen.Beyond i) z p q e t f = rw (← p) (served_is q e t f)
@@ -194,7 +197,8 @@ module _ {xs : List Item} {vs : Vars} {s : Spot} {k : Looked} (os : List Out) (l
         effects.served before s (states.meets (states.wanted_by x) o)
         (effects.run_item s x k.cells k.chosen k.around o)
 
-    item_is : step_of os vs (effects.at_item before s k o) ≡ rules.at_item xs (live_state vs before) run o (drop s.at xs)
+    item_is : step_of os vs (effects.at_item before s k o) ≡ rules.at_item xs (live_state vs before) run o
+        (drop s.at xs)
     item_is = go (effects.fault_of s x k.cells k.around.stray) refl
       where
         go : (t : Trouble) → effects.fault_of s x k.cells k.around.stray ≡ t
@@ -363,7 +367,8 @@ module _ {xs : List Item} {vs : Vars} {s : Spot} {k : Looked} (l : LooksUp xs vs
   live_is Control.None o = moved_is s l o
   live_is Control.Z o = moved_is s (with_flags true s.skip) o
   live_is Control.Y o =
-      ap (λ (b : Bool). step_of (leave_outs xs (open_at s)) vs (effects.moved s (effects.with_skip s (s.skip || b)) k o))
+      ap (λ (b : Bool). step_of (leave_outs xs (open_at s)) vs (effects.moved s (effects.with_skip s
+          (s.skip || b)) k o))
       l.sweeping
       ∙ moved_is s (with_flags s.pending (s.skip || any_open is_sweep xs (open_at s))) o
 

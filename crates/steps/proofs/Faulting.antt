@@ -188,7 +188,8 @@ abbrev pub trouble_of : Trouble → ℕ
 trouble_of Trouble.None = 0
 trouble_of (Trouble.Fault f) = fault_number f
 
-pub fault_number_lem : (a b c d e : Bool) → trouble_of (effects.or_else (effects.read_fault a b) (effects.mark_fault c d e))
+pub fault_number_lem : (a b c d e : Bool) → trouble_of (effects.or_else (effects.read_fault a b)
+    (effects.mark_fault c d e))
     ≡ lowest ((60, a) ∷ (61, b) ∷ (62, c) ∷ (63, d) ∷ (64, e) ∷ [])
 fault_number_lem true b c d e = refl
 fault_number_lem false true c d e = refl

@@ -101,7 +101,8 @@ known_rests false xs m₀ m o = shapeless_rests m₀ m
 pub step_rests : (size : ℕ) (t : Table) (m : State) (c : Control) (o : Offer)
     → Rests m.status m (told (items_of t) m c) (step size t m c o)
 unfolding step
-step_rests size t m c o = known_rests (in_shape size t && state_ok (items_of t) m) (items_of t) m (told (items_of t) m c) o
+step_rests size t m c o = known_rests (in_shape size t && state_ok (items_of t) m) (items_of t) m (told
+    (items_of t) m c) o
 
 -- ---- only the flags that a control sets
 

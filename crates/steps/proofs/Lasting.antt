@@ -30,7 +30,8 @@ use Rattle.state.specs.declared.Cell.TheVariants as Cell
 use Rattle.state.specs.declared.Control.{Control}
 use Rattle.state.specs.declared.LoopSort.{LoopSort}
 use Rattle.state.specs.declared.Offer.{Offer}
-use Rattle.state.specs.State.{measures, Vars, cell_at, cell_type, value_of, holds, write, da, ba, eb, State, Status, live}
+use Rattle.state.specs.State.{measures, Vars, cell_at, cell_type, value_of, holds, write, da, ba, eb, State, Status}
+use Rattle.state.specs.State.{live}
 use Rattle.state.specs.State.{finishedRun, stoppedRun, faultRun, Out, Step, Meets, ready, short, amiss, goto, keep}
 use Rattle.state.specs.State.{unskip, end_with, reading, code0010, wantsNothing, wanted_by, meets, cleared, cells_ok}
 use Rattle.state.specs.State as runs

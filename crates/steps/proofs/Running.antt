@@ -24,7 +24,8 @@ use Rattle.state.specs.declared.Point.{Point}
 use Rattle.state.specs.declared.Stop.TheVariants as Stop
 use Rattle.state.specs.declared.What.TheVariants as What
 use Rattle.state.specs.State as states
-use Rattle.state.specs.State.{Vars, cell_at, cell_value, value_of, Out, State, stops_by, code0010, outer, measures, da, ba}
+use Rattle.state.specs.State.{Vars, cell_at, cell_value, value_of, Out, State, stops_by, code0010, outer, measures, da}
+use Rattle.state.specs.State.{ba}
 use Rattle.state.specs.Meaning.{tops}
 use Rattle.state.proofs.Boxes.{tops_push}
 use Rattle.effect.specs.declared.Chosen.{Chosen}
@@ -156,7 +157,8 @@ module _ (os : List Out) (vs : Vars) (s : Spot) (h : s.at < 128) (d : s.depth �
       go : (b : Bool)
           → step_of os vs (cond b (effects.enter_loop s LoopSort.Sweep (first v p) (second v p))
           (effects.stop_by s Stop.NotFinite))
-          ≡ cond b (enter LoopSort.Sweep (live_state (wrote (second v p) (wrote (first v p) vs)) s)) (stops_by code0010 m)
+          ≡ cond b (enter LoopSort.Sweep (live_state (wrote (second v p) (wrote (first v p) vs)) s))
+              (stops_by code0010 m)
       go true = enters_is LoopSort.Sweep (first v p) (second v p) r
       go false = refl
 

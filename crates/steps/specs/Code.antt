@@ -1,6 +1,7 @@
 -- What only the code's shape needs: what an effect makes of a run with its names, what is looked up for one step, and
 -- where a run in shape stands.
-use Rattle.std.specs.Prelude.{ℕ, suc, ◌≤◌, ◌<◌, ◌≡◌, Bool, true, false, not, ◌&&◌, cond, List, [], ◌∷◌, ◌++◌, eqb, ltb, leb, length, set}
+use Rattle.std.specs.Prelude.{ℕ, suc, ◌≤◌, ◌<◌, ◌≡◌, Bool, true, false, not, ◌&&◌, cond, List, [], ◌∷◌, ◌++◌, eqb, ltb}
+use Rattle.std.specs.Prelude.{leb, length, set}
 use Rattle.std.proofs.Math.Option.{Option, none, some}
 use Rattle.table.specs.declared.Head.{Head}
 use Rattle.table.specs.declared.Item.{Item}
@@ -15,7 +16,8 @@ use Rattle.state.specs.declared.Stepped.{Stepped}
 use Rattle.state.specs.declared.Var.{Var}
 use Rattle.state.specs.declared.What.{What}
 use Rattle.state.specs.State.{Vars, cell_at, Out, State, Step, holds, stays, flagged, outer}
-use Rattle.state.specs.Meaning.{state_of, cells_of, status_of, answer_of, out_of, fault_number, tops, meaning, Neat, Blank}
+use Rattle.state.specs.Meaning.{state_of, cells_of, status_of, answer_of, out_of, fault_number, tops, meaning, Neat}
+use Rattle.state.specs.Meaning.{Blank}
 use Rattle.state.specs.declared.State as coded
 use Rattle.effect.specs.declared.Around.{Around}
 use Rattle.operands.specs.declared.Cells.{Cells}

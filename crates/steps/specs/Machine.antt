@@ -12,7 +12,8 @@
 -- They stand here the other way round, since a definition cites only what stands before it: the open boxes, faults, one
 -- item, one step, the state's shape, and `step` last. The names, the run, what a step answers and hands out, what an
 -- item wants and what an offer meets stand in specs/State.antt of the crate `state`.
-use Rattle.std.specs.Prelude.{ℕ, zero, suc, Bool, true, false, not, ◌&&◌, ◌||◌, cond, List, [], ◌∷◌, ◌++◌, eqb, ltb, leb, length, set, drop, Float}
+use Rattle.std.specs.Prelude.{ℕ, zero, suc, Bool, true, false, not, ◌&&◌, ◌||◌, cond, List, [], ◌∷◌, ◌++◌, eqb, ltb}
+use Rattle.std.specs.Prelude.{leb, length, set, drop, Float}
 use Rattle.std.proofs.Math.Option.{Option, none, some}
 use Rattle.value.specs.declared.Calculated.{Calculated}
 use Rattle.value.specs.declared.Value.TheVariants as Value
@@ -36,7 +37,8 @@ use Rattle.mates.specs.Mates.{scan, boxes_at, belongs, close_of, item_at, past}
 use Rattle.state.specs.declared.Control.{Control}
 use Rattle.state.specs.declared.LoopSort.{LoopSort}
 use Rattle.state.specs.declared.Offer.{Offer}
-use Rattle.state.specs.State.{measures, Vars, cell_at, cell_type, cell_value, written, kind_now, value_of, holds, write, da}
+use Rattle.state.specs.State.{measures, Vars, cell_at, cell_type, cell_value, written, kind_now, value_of, holds, write}
+use Rattle.state.specs.State.{da}
 use Rattle.state.specs.State.{ba, eb, cells_ok, Status, live, finishedRun, stoppedRun, faultRun, code0028, code0010}
 use Rattle.state.specs.State.{State, goto, keep, unskip, end_with, packing, pend, told_in, cleared, Out, enters, leaves}
 use Rattle.state.specs.State.{packStart, packEnd, pack_part, says, waits, setsE, sets_mode, switches_cell, waiting}
@@ -342,5 +344,6 @@ shapeless m = record { answer = refuse 30 0; outs = []; next = m }
 -- the length of the script's bytes, the table, the state, the control and the offer
 unfoldable pub step : ℕ → Table → State → Control → Offer → Step
 step size s m c o =
-    cond (in_shape size s && state_ok (items_of s) m) (again m.status m (moved (items_of s) m (told (items_of s) m c) o))
+    cond (in_shape size s && state_ok (items_of s) m) (again m.status m (moved (items_of s) m (told
+        (items_of s) m c) o))
     (shapeless m)

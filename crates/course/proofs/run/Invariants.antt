@@ -29,8 +29,9 @@ decreases-loop-i l = l.n - l.i
 -- the mates that a false condition tries
 abbrev pub invariant-loop-found : goal.invariant-loop-found
 invariant-loop-found l =
-    Within (Trying (stage (length l.text) l.table l.marks.at l.count l.tag l.shaped l.vars l.spot l.status) l.control l.offer l.item l.cells
-    l.found l.j)
+    Within
+    (Trying (stage (length l.text) l.table l.marks.at l.count l.tag l.shaped l.vars l.spot l.status) l.control l.offer
+    l.item l.cells l.found l.j)
     (Rounds (take l.budget (steps_of l.steps)) l.n l.steps.at l.state l.i l.answers l.things l.handed l.stayed
     (stage (length l.text) l.table l.marks.at l.count l.tag l.shaped l.vars l.spot l.status))
     l.i l.n l.things l.handed

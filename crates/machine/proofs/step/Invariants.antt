@@ -21,8 +21,9 @@ decreases-loop-m l = l.count - l.m
 -- the mates that a false condition tries
 abbrev pub invariant-loop-found : goal.invariant-loop-found
 invariant-loop-found l =
-    From (Trying (stage (length l.text) l.table l.marks.at l.count l.tag l.shaped l.vars l.spot l.status) l.control l.offer l.item l.cells
-    l.found l.j)
+    From
+    (Trying (stage (length l.text) l.table l.marks.at l.count l.tag l.shaped l.vars l.spot l.status) l.control l.offer
+    l.item l.cells l.found l.j)
     (state_with (cells_of l.vars) l.spot l.status) l.state
 
 abbrev pub decreases-loop-found : goal.decreases-loop-found

@@ -6,7 +6,7 @@ use Rattle.course.specs.Course.{Course, steps_of, run_from}
 use Rattle.course.specs.declared.Steps.{Steps}
 use Rattle.rules.specs.declared.Refusal.{Refusal as Rule}
 use Rattle.rules.specs.declared.Verdict.TheVariants as Verdict
-use Rattle.rules.specs.Verdict.{number_of as ruleNumber}
+use Rattle.rules.specs.Verdict.{number_of as rule_number}
 use Rattle.safety.proofs.Report.{rules_yes, rules_no, from_fresh, fixed}
 use Rattle.safety.specs.Outcome.{Outcome, refusal, checked_outcome}
 use Rattle.state.specs.State.{fresh}
@@ -33,8 +33,9 @@ module _ (c : After-check-verdict) where
   accepts is = sym (rules_yes size table (steps_of steps) c.check-verdict.result c.check-verdict.ensures is)
 
   refuses : (r : Rule) (line : ℕ) → c.check-verdict.result ≡ Verdict.Refused r line
-      → refusal (ruleNumber r) line ≡ checked_outcome size table (steps_of steps)
-  refuses r line is = sym (rules_no size table (steps_of steps) c.check-verdict.result c.check-verdict.ensures r line is)
+      → refusal (rule_number r) line ≡ checked_outcome size table (steps_of steps)
+  refuses r line is =
+      sym (rules_no size table (steps_of steps) c.check-verdict.result c.check-verdict.ensures r line is)
 
 pub returns-in-Accepted : goal.returns-in-Accepted
 returns-in-Accepted c =
@@ -46,4 +47,5 @@ returns-in-Accepted c =
 
 pub returns-in-Refused : goal.returns-in-Refused
 returns-in-Refused c =
-    (c.refused.ensures.0 ∙ refuses (goal.at.returns-in-Refused c).After-check-verdict _ _ c.in-Refused.is, c.refused.ensures.1)
+    let verdict = (goal.at.returns-in-Refused c).After-check-verdict in
+    (c.refused.ensures.0 ∙ refuses verdict _ _ c.in-Refused.is, c.refused.ensures.1)

@@ -5,7 +5,7 @@ use mathlib.Core.List.{List}
 use mathlib.Core.Path.{◌≡◌, sym, ◌∙◌}
 use Prim.Native.Nat.{ℕ}
 use Rattle.argument.specs.declared.Refusal.{Refusal}
-use Rattle.argument.specs.Refusal.{number_of as formNumber}
+use Rattle.argument.specs.Refusal.{number_of as form_number}
 use Rattle.course.specs.Course.{steps_of}
 use Rattle.safety.proofs.Report.{form_yes, form_no, exact}
 use Rattle.safety.specs.Outcome.{refusal, checked_outcome, outcome}
@@ -32,7 +32,7 @@ module _ (c : After-load-loaded) where
   accepts is = sym (form_yes text steps loaded c.load-loaded.ensures is)
 
   refuses : (r : Refusal) (line : ℕ) → loaded.answer ≡ Answer.Refused r line
-      → refusal (formNumber r) line ≡ outcome text steps
+      → refusal (form_number r) line ≡ outcome text steps
   refuses r line is = sym (form_no text steps loaded c.load-loaded.ensures r line is)
 
 pub returns-in-Accepted : goal.returns-in-Accepted
