@@ -344,6 +344,6 @@ shapeless m = record { answer = refuse 30 0; outs = []; next = m }
 -- the length of the script's bytes, the table, the state, the control and the offer
 unfoldable pub step : ℕ → Table → State → Control → Offer → Step
 step size s m c o =
-    cond (in_shape size s && state_ok (items_of s) m) (again m.status m (moved (items_of s) m (told
-        (items_of s) m c) o))
+    cond (in_shape size s && state_ok (items_of s) m)
+    (again m.status m (moved (items_of s) m (told (items_of s) m c) o))
     (shapeless m)
