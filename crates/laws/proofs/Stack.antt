@@ -40,4 +40,5 @@ module _ {A : Type 0} (none : A) where
   renewed l zero x h k = absurd (h refl)
   renewed l (suc n) x h k =
       let e : suc n - 1 ≡ n = omega arith in
-      ap (λ (k : ℕ). stack none (set l k x) (suc n)) e ∙ rw (get_or-set_same l n x none k, stack_set l n x n (omega arith), e)
+      ap (λ (k : ℕ). stack none (set l k x) (suc n)) e
+      ∙ rw (get_or-set_same l n x none k, stack_set l n x n (omega arith), e)

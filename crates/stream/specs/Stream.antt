@@ -22,3 +22,8 @@ Within Input.Failed bytes = Unit {0}
 abbrev pub Takes : Option (List ℕ) → Option (List ℕ) → Input → List ℕ → Type 0
 Takes old new (Input.Bytes n) bytes = Consumes old new (take n bytes) × (n < length bytes → IsAtEnd new)
 Takes old new Input.Failed bytes = Unit {0}
+
+-- Both of what was read: old and new are the reader's bytes before and after, where they are known.
+pub record Reads (old new : Option (List ℕ)) (input : Input) (bytes : List ℕ) : Type 0 where
+  pub within : Within input bytes
+  pub taken : Takes old new input bytes

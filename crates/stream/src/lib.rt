@@ -2,7 +2,7 @@
 #![tactic(auto)]
 
 ghost use Rattle.std.specs.Prelude.{◌≡◌};
-ghost use Rattle.stream.specs.Stream.{Takes, Within, heard};
+ghost use Rattle.stream.specs.Stream.{Reads, heard};
 
 use std::io;
 use std::io::Read;
@@ -35,8 +35,7 @@ fn hear(got: io::Result<usize>, size: usize) -> Heard
 
 // Reads until the buffer is full or the input is over.
 pub fn read_whole<R: Read>(reader: &mut R, buf: &mut [u8]) -> Input
-    ensures within { Within result buf.new }
-    ensures bytes { Takes (R.remaining reader.old) (R.remaining reader.new) result buf.new }
+    ensures { Reads (R.remaining reader.old) (R.remaining reader.new) result buf.new }
 {
     let mut size: usize = 0;
     while size < buf.len() {

@@ -3,17 +3,13 @@ use Rattle.std.proofs.Common.{rules, refl, ◌≡◌, ◌-◌, length}
 use Rattle.stream.proofs.Hearing.{goes_on, onward, over, within}
 use Rattle.stream.proofs.read_whole.Goals as goal
 
-pub returns-in-Over-clause-within : goal.returns-in-Over-clause-within
-returns-in-Over-clause-within g c =
+pub returns-in-Over : goal.returns-in-Over
+returns-in-Over g c =
     let full : length c.read-got.new.buf ≡ length c.loop-size.buf - c.loop-size.size = search rules in
-    (over _ _ _ _ c.loop-size.invariant.0 refl full _ _ _ _ c.loop-size.invariant.2 c.read-got.ensures.bytes
-    c.in-Over.input c.loop-size-test.true c.in-Over.ensures).0
-
-pub returns-in-Over-clause-bytes : goal.returns-in-Over-clause-bytes
-returns-in-Over-clause-bytes g c =
-    let full : length c.read-got.new.buf ≡ length c.loop-size.buf - c.loop-size.size = search rules in
-    (over _ _ _ _ c.loop-size.invariant.0 refl full _ _ _ _ c.loop-size.invariant.2 c.read-got.ensures.bytes
-    c.in-Over.input c.loop-size-test.true c.in-Over.ensures).1
+    let both =
+    over _ _ _ _ c.loop-size.invariant.0 refl full _ _ _ _ c.loop-size.invariant.2 c.read-got.ensures.bytes
+    c.in-Over.input c.loop-size-test.true c.in-Over.ensures in
+    record { within = both.0; taken = both.1 }
 
 pub overflow_add-size : goal.overflow_add-size
 overflow_add-size g c =
