@@ -87,7 +87,7 @@ pub told_few : (n k : ℕ) (ts : List Told) → length ts ≡ 64
 told_few n k ts h =
     least_takes (least n k) 64 (all_told ts)
     ∙ ap (λ (l : List (Control × Offer)). take (least n k) l) (take_all 64 (all_told ts) (omega
-        (arith, told-length ts)))
+    (arith, told-length ts)))
     ∙ least_takes n k (all_told ts)
 
 -- ---- the shape lasts

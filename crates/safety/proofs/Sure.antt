@@ -40,7 +40,7 @@ abbrev Giving : Kinds → List Write → Type 0
 Giving k [] = Unit {0}
 Giving k (Write.Like n x ∷ gs) =
     (n < 32) × (is_known (kind_in (kind_at k) x) ≡ true) × Giving (set k n (or_else (kind_at k n) (kind_in
-        (kind_at k) x))) gs
+    (kind_at k) x))) gs
 Giving k (Write.Float n ∷ gs) = (n < 32) × Giving (set k n (or_else (kind_at k n) (Known.Of Kind.Real))) gs
 
 known_or : (a b : Known) → is_known b ≡ true → is_known (or_else a b) ≡ true

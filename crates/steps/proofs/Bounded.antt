@@ -59,8 +59,13 @@ past_within xs p = go (close_of xs p) refl
             let f : close_from p p (boxes_at xs p) [] ≡ some k = rw d at e in
             absurd (true≢false (ap is_none f))
         pick false q =
-            omega (arith, close_within_lem p p (boxes_at xs p) (drop p xs) k e, length-drop p xs, ltb-false
-                (length xs) p q)
+            omega (
+              arith,
+              close_within_lem p p (boxes_at xs p) (drop p xs) k e,
+              length-drop p xs,
+              ltb-false
+                  (length xs) p q,
+            )
 
 abbrev pub Within : Chosen → ℕ → Type 0
 Within (into i) n = i ≤ n

@@ -186,7 +186,7 @@ module _ {xs : List Item} {vs : Vars} {s : Spot} {k : Looked} (os : List Out) (l
     unless_is : (c : Chosen) (z : rules.Chosen) → chosen_of c ≡ z → (q : states.Meets) (e : Effect) (t : Step)
         → step_of os vs e ≡ t
         → step_of os vs (effects.unless (effects.chosen_fault c) s (effects.served before s q e))
-            ≡ or_fault (bad_of z) run
+        ≡ or_fault (bad_of z) run
         (served (live_state vs before) run q t)
     unless_is (Chosen.Into i) z p q e t f = rw (← p) (served_is q e t f)
     unless_is (Chosen.Beyond i) z p q e t f = rw (← p) (served_is q e t f)
@@ -368,7 +368,7 @@ module _ {xs : List Item} {vs : Vars} {s : Spot} {k : Looked} (l : LooksUp xs vs
   live_is Control.Z o = moved_is s (with_flags true s.skip) o
   live_is Control.Y o =
       ap (λ (b : Bool). step_of (leave_outs xs (open_at s)) vs (effects.moved s (effects.with_skip s
-          (s.skip || b)) k o))
+      (s.skip || b)) k o))
       l.sweeping
       ∙ moved_is s (with_flags s.pending (s.skip || any_open is_sweep xs (open_at s))) o
 

@@ -42,7 +42,7 @@ few_item xs m₀ m o [] =
     (few_served m₀ m (meets wantsNothing o) _ zero-le)
 few_item xs m₀ m o (x ∷ rest) =
     few_fault (lowest (faults xs m x)) m (or_fault (tries xs m x) m (served m₀ m (meets (wanted_by x) o)
-        (run xs m x o)))
+    (run xs m x o)))
     (few_fault (tries xs m x) m (served m₀ m (meets (wanted_by x) o) (run xs m x o))
     (few_served m₀ m (meets (wanted_by x) o) (run xs m x o) (run_taken xs m x o).few))
 

@@ -119,7 +119,7 @@ module _ (l : List Var) (h : length l ≡ 32) where
 
   pub stored : (w : Written)
       → cells_of (set l (operands.write_place w) (operands.write_over w (get_or l
-          (operands.write_place w) no_var))) ≡ wrote w
+      (operands.write_place w) no_var))) ≡ wrote w
       (cells_of l)
   stored Written.Nothing = ap cells_of (set_same l 0)
   stored (Written.Put n c) = go (ltb n 32) refl

@@ -158,7 +158,7 @@ module _ (os : List Out) (vs : Vars) (s : Spot) (h : s.at < 128) (d : s.depth �
           → step_of os vs (cond b (effects.enter_loop s LoopSort.Sweep (first v p) (second v p))
           (effects.stop_by s Stop.NotFinite))
           ≡ cond b (enter LoopSort.Sweep (live_state (wrote (second v p) (wrote (first v p) vs)) s))
-              (stops_by code0010 m)
+          (stops_by code0010 m)
       go true = enters_is LoopSort.Sweep (first v p) (second v p) r
       go false = refl
 
