@@ -4,14 +4,14 @@ use Rattle.std.specs.Prelude.{◌≡◌, Bool, true, false, cond, List, [], ◌�
 use Rattle.text.specs.Cut.{before}
 use Rattle.value.specs.declared.Comparison.{Comparison}
 use Rattle.value.specs.declared.Literal.{Literal}
-use Rattle.value.specs.Literal.{literal as readLiteral}
+use Rattle.value.specs.Literal.{literal as read_literal}
 use Rattle.table.specs.declared.Operand.TheVariants as Operand
 use Rattle.word.specs.declared.Class.TheVariants as Class
 use Rattle.word.specs.declared.Found.{Found}
 use Rattle.word.specs.declared.TypeName.{TypeName}
 use Rattle.word.specs.declared.Small.{Small}
 use Rattle.text.specs.Bytes.{byte, ascii}
-use Rattle.word.specs.Word.{run, word_at, part, name_form, read_type, small_of as readNumber, padded, seek}
+use Rattle.word.specs.Word.{run, word_at, part, name_form, read_type, small_of as read_number, padded, seek}
 use Rattle.argument.specs.declared.Refusal.TheVariants as Refusal
 pub use Rattle.argument.specs.declared.Form.{Form}
 pub use Rattle.argument.specs.declared.Form.TheVariants as Form
@@ -45,7 +45,7 @@ valued_by (Literal.Value v i) = Argument.Literal v
 valued_by (Literal.Bad i) = Argument.Wrong Refusal.BadArguments
 
 unfoldable pub literal_said : List ℕ → Argument
-literal_said w = valued_by (readLiteral w)
+literal_said w = valued_by (read_literal w)
 
 abbrev pub known_operand : Found → Argument
 known_operand (Found.At i) = Argument.Operand (Operand.Name i)
@@ -56,7 +56,7 @@ literal_operand (Literal.Value v i) = Argument.Operand (Operand.Literal v)
 literal_operand (Literal.Bad i) = Argument.Wrong Refusal.BadArguments
 
 unfoldable pub operand_said : List (List ℕ) → List ℕ → Argument
-operand_said names w = cond (name_form w) (known_operand (seek names w)) (literal_operand (readLiteral w))
+operand_said names w = cond (name_form w) (known_operand (seek names w)) (literal_operand (read_literal w))
 
 abbrev pub lettered_by : TypeName → Argument
 lettered_by (TypeName.Letters t) = Argument.Letters t
@@ -70,7 +70,7 @@ numbered_by (Small.Number n) = Argument.Number n
 numbered_by Small.Bad = Argument.Wrong Refusal.BadArguments
 
 unfoldable pub number_said : List ℕ → Argument
-number_said w = numbered_by (readNumber w)
+number_said w = numbered_by (read_number w)
 
 unfoldable pub signs : List (List ℕ)
 signs =

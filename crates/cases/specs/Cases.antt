@@ -16,7 +16,7 @@ use Rattle.rules.specs.Check.{Verdict, verdict}
 
 -- what is asked of the bytes
 pub data Question : Type 0 where
-  crcOf literalOf packageFrom scriptFrom : List ℕ → Question
+  crc_of literal_of package_from script_from : List ℕ → Question
 
 pub data Answer : Type 0 where
   sum : ℕ → Answer
@@ -34,10 +34,10 @@ checked s = checked_of (length s) (loaded s)
 
 -- what the definitions say
 unfoldable pub answer : Question → Answer
-answer (crcOf s) = sum (crc s)
-answer (literalOf s) = value (literal s)
-answer (packageFrom s) = reading (package_of s)
-answer (scriptFrom s) = script (loaded s) (checked s)
+answer (crc_of s) = sum (crc s)
+answer (literal_of s) = value (literal s)
+answer (package_from s) = reading (package_of s)
+answer (script_from s) = script (loaded s) (checked s)
 
 pub record Case : Type 0 where
   pub letter : String
@@ -60,26 +60,26 @@ one_part t a =
 unfoldable pub cases : List Case
 cases =
     -- CRC of `05` is 7E6C
-    asks "A" (crcOf (ascii "05")) (sum 0x7E6C) ∷
+    asks "A" (crc_of (ascii "05")) (sum 0x7E6C) ∷
     -- of `52`, F17E
-    asks "B" (crcOf (ascii "52")) (sum 0xF17E) ∷
+    asks "B" (crc_of (ascii "52")) (sum 0xF17E) ∷
     -- of `e03`, BFA2
-    asks "C" (crcOf (ascii "e03")) (sum 0xBFA2) ∷
+    asks "C" (crc_of (ascii "e03")) (sum 0xBFA2) ∷
     -- `1500m` is 1.5
-    asks "D" (literalOf (ascii "1500m")) (float (fin false 3 (negsuc 0)) 5) ∷
+    asks "D" (literal_of (ascii "1500m")) (float (fin false 3 (negsuc 0)) 5) ∷
     -- `-0` is plus zero
-    asks "E" (literalOf (ascii "-0")) (float (fin false 0 (pos 0)) 2) ∷
+    asks "E" (literal_of (ascii "-0")) (float (fin false 0 (pos 0)) 2) ∷
     -- `da7F0BDF9u` is -999943, exponent -6
-    asks "F" (packageFrom (ascii "Pda7F0BDF9u")) (one_part 0x6461 (Amount.Number (negsuc 999942) (negsuc 5))) ∷
+    asks "F" (package_from (ascii "Pda7F0BDF9u")) (one_part 0x6461 (Amount.Number (negsuc 999942) (negsuc 5))) ∷
     -- value 0000000 is -134217728
-    asks "G" (packageFrom (ascii "Pda0000000 ")) (one_part 0x6461 (Amount.Number (negsuc 134217727) (pos 0))) ∷
+    asks "G" (package_from (ascii "Pda0000000 ")) (one_part 0x6461 (Amount.Number (negsuc 134217727) (pos 0))) ∷
     -- FFFFFFF is 134217727
-    asks "H" (packageFrom (ascii "PdaFFFFFFF ")) (one_part 0x6461 (Amount.Number (pos 134217727) (pos 0))) ∷
+    asks "H" (package_from (ascii "PdaFFFFFFF ")) (one_part 0x6461 (Amount.Number (pos 134217727) (pos 0))) ∷
     -- `ja8000001i` is integer 1
-    asks "I" (packageFrom (ascii "Pja8000001i")) (one_part 0x6A61 (Amount.Integer (pos 1))) ∷
+    asks "I" (package_from (ascii "Pja8000001i")) (one_part 0x6A61 (Amount.Integer (pos 1))) ∷
     -- `P` alone is 40
-    asks "J" (packageFrom (ascii "P")) (reading (refused 40 1)) ∷
+    asks "J" (package_from (ascii "P")) (reading (refused 40 1)) ∷
     -- empty script, 11
-    asks "K" (scriptFrom []) (script (refusal 11 1) (Rules.refused 11 1)) ∷
+    asks "K" (script_from []) (script (refusal 11 1) (Rules.refused 11 1)) ∷
     -- only the empty line, accepted
-    asks "L" (scriptFrom (ascii "\n")) (script (accepted empty_table 1) Rules.accepted) ∷ []
+    asks "L" (script_from (ascii "\n")) (script (accepted empty_table 1) Rules.accepted) ∷ []

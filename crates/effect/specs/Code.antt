@@ -438,7 +438,7 @@ abbrev pub at_item : Spot → Spot → Looked → Offer → Effect
 at_item before s k o = unless (trouble_of s k) s (sound_item before s k o)
 
 abbrev pub leave_all : Spot → Spot → Status → Answer → Offer → Effect
-leave_all before s t a o = served before s (rules.meets rules.wantsNothing o) (leaving s t a)
+leave_all before s t a o = served before s (rules.meets rules.wants_nothing o) (leaving s t a)
 
 abbrev pub finish : Spot → Spot → Offer → Effect
 finish before s o = leave_all before s Status.Finished Answer.Finished o

@@ -1,5 +1,6 @@
 -- Laws of the walk over the lines, as the code goes. Assumes nothing.
-use borrow.Author.Tests.{eq-eqb, ne_eqb, le-ltb}
+use borrow.Author.Tests.{eq-eqb, ne_eqb, ltb-true, le-ltb}
+use lib.Dec.{ltb}
 use lib.ListN.{length, take, drop, set, replicate, length-drop, length-set, drop_of_length-le}
 use lib.Seq.{length-take-le, take-suc-set}
 use mathlib.Core.Bool.{Bool, true, false, cond}
@@ -11,8 +12,8 @@ use Prim.Native.Nat.{ℕ, ◌+◌, ◌-◌, ◌≤◌, ◌<◌}
 use Rattle.argument.specs.declared.Refusal.{Refusal}
 use Rattle.argument.specs.declared.Refusal.TheVariants as R
 use Rattle.argument.specs.Refusal.{number_of}
-use Rattle.line.specs.Line.{item, refused}
-use Rattle.loader.proofs.Room.{few}
+use Rattle.line.specs.Line.{item, refused, judged}
+use Rattle.loader.proofs.Room.{apart, few}
 use Rattle.loader.specs.Load.{Outcome, empty_table, declares, counted, appended, Line, nothing, given, Step}
 use Rattle.loader.specs.Load.{taking, taken_by, line_step, name_row, named, refusal, accepted, walk, loaded}
 use Rattle.table.specs.declared.Item.{Item}
@@ -20,6 +21,7 @@ use Rattle.table.specs.declared.Table.{Table}
 use Rattle.text.proofs.Cut as C
 use Rattle.text.specs.Bytes.{byte}
 use Rattle.text.specs.Cut.{before, cut, lines}
+use Rattle.word.specs.Word.{skipped}
 
 -- ---- what holds at each line: what is still to come of the walk is the whole
 
@@ -215,6 +217,20 @@ module _ {s : List ℕ} {p : Table} {rows : List (List ℕ)} {at nr stop : ℕ} 
       let counts : (stepped r).table.names ≡ counted p.names it =
       ap (λ (x : Step). x.table.names) (step_as r) in
       omega (arith, most.most, counts, counted_as p.names it true d)
+
+  pub room_left : p.count < 128
+  room_left =
+      tests (ltb 127 (length (line s at stop))) (skipped (line s at stop)) (ltb p.count 128) refl r.takes
+    where
+      tests : (a b c : Bool) → ltb p.count 128 ≡ c
+          → given (item it)
+          ≡ cond a (given (refused 12))
+          (cond b nothing (cond c (given (judged (names r) (take stop s) at)) (given (refused 13))))
+          → p.count < 128
+      tests true b c w v = apart cc
+      tests false true c w v = apart cc
+      tests false false true w v = ltb-true _ _ w
+      tests false false false w v = apart cc
 
   -- the walk goes on behind it, with the names that there are then
   goes_on_with : (b : Bool) → declares it ≡ b

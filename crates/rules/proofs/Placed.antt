@@ -12,7 +12,7 @@ use Rattle.table.specs.declared.Item.{Item}
 use Rattle.table.specs.Item.{sort_of, is_else}
 use Rattle.table.specs.ReadWrite.{Names, act_writes, head_writes, packs}
 use Rattle.sets.specs.Names.{nothing, everything, both, put}
-use Rattle.rules.specs.Check.{Box as Plain, Held, after_box, after as afterPlain}
+use Rattle.rules.specs.Check.{Box as Plain, Held, after_box, after as after_plain}
 
 pub record Box : Type 0 where
   pub at : ℕ
@@ -78,7 +78,7 @@ after i s Item.Break = s
 after i s Item.Tag = record { sure = nothing; boxes = s.boxes; packed = s.packed; tagged = true }
 
 -- it is the rules' own walk
-pub same_walk : (i : ℕ) (s : Placed) (x : Item) → bare (after i s x) ≡ afterPlain (bare s) x
+pub same_walk : (i : ℕ) (s : Placed) (x : Item) → bare (after i s x) ≡ after_plain (bare s) x
 same_walk i s (Item.Act a) = refl
 same_walk i s (Item.Pack p) = refl
 same_walk i s (Item.Open h) = refl
@@ -86,14 +86,14 @@ same_walk i s (Item.Branch b) = by s.boxes
   where
     by : (bs : List Box)
         → bare (after i (placed s.sure bs s) (Item.Branch b))
-        ≡ afterPlain (bare (placed s.sure bs s)) (Item.Branch b)
+        ≡ after_plain (bare (placed s.sure bs s)) (Item.Branch b)
     by [] = refl
     by (x ∷ bs) = refl
 same_walk i s (Item.Close e) = by s.boxes
   where
     by : (bs : List Box)
         → bare (after i (placed s.sure bs s) (Item.Close e))
-        ≡ afterPlain (bare (placed s.sure bs s)) (Item.Close e)
+        ≡ after_plain (bare (placed s.sure bs s)) (Item.Close e)
     by [] = refl
     by (x ∷ bs) = refl
 same_walk i s Item.Break = refl

@@ -66,6 +66,11 @@ differs (Known.Of Kind.Whole) (Known.Of Kind.Real) = refl
 differs (Known.Of Kind.Real) (Known.Of Kind.Whole) = refl
 differs (Known.Of Kind.Real) (Known.Of Kind.Real) = refl
 
+pub not_float : (j : Known) → is_whole j ≡ differ j (Known.Of Kind.Real)
+not_float Known.Unknown = refl
+not_float (Known.Of Kind.Whole) = refl
+not_float (Known.Of Kind.Real) = refl
+
 -- ---- a kind learnt
 
 pub none_known : (k : Sorted) → names_of k.whole ≡ nothing → names_of k.real ≡ nothing
@@ -84,12 +89,31 @@ module _ (k : Kinds) (n : ℕ) where
       by Known.Unknown h = no (sym h)
       by (Known.Of i) h = refl
 
+  pub teaches_none : (j : Known) → is_whole j ≡ false → is_float j ≡ false → k ≡ learnt k n j
+  teaches_none Known.Unknown e f = same Known.Unknown (by (kind_at k n))
+    where
+      by : (i : Known) → or_else i Known.Unknown ≡ i
+      by Known.Unknown = refl
+      by (Known.Of i) = refl
+  teaches_none (Known.Of Kind.Whole) e f = no e
+  teaches_none (Known.Of Kind.Real) e f = no f
+
   learns_first : (j : Known) → is_known (kind_at k n) ≡ false → set k n j ≡ learnt k n j
   learns_first j h = ap (set k n) (by (kind_at k n) h)
     where
       by : (i : Known) → is_known i ≡ false → j ≡ or_else i j
       by Known.Unknown h = refl
       by (Known.Of i) h = no h
+
+pub is_whole_lem : (j : Known) → is_whole j ≡ true → Known.Of Kind.Whole ≡ j
+is_whole_lem Known.Unknown e = no (sym e)
+is_whole_lem (Known.Of Kind.Whole) e = refl
+is_whole_lem (Known.Of Kind.Real) e = no (sym e)
+
+pub is_float_lem : (j : Known) → is_float j ≡ true → Known.Of Kind.Real ≡ j
+is_float_lem Known.Unknown e = no (sym e)
+is_float_lem (Known.Of Kind.Whole) e = no (sym e)
+is_float_lem (Known.Of Kind.Real) e = refl
 
 set-whole : (s t : Names) (n : ℕ) → kinds_by (set s n true) t ≡ set (kinds_by s t) n (Known.Of Kind.Whole)
 unfolding kinds_by

@@ -7,7 +7,7 @@ use mathlib.Core.List.{List, []}
 use Rattle.table.specs.declared.Item.{Item}
 use Rattle.state.specs.declared.Control.{Control}
 use Rattle.state.specs.declared.Offer.{Offer}
-use Rattle.state.specs.State.{Status, live, finishedRun, stoppedRun, faultRun, State, Answer, running, waiting}
+use Rattle.state.specs.State.{Status, live, finished_run, stopped_run, fault_run, State, Answer, running, waiting}
 use Rattle.state.specs.State.{finished, stopped, fault, refuse, Step, fresh, Meets, ready, short, amiss}
 use Rattle.steps.specs.Machine.{served, told, moved, again}
 use Rattle.safety.specs.Safety.{is_amiss, wrong_sort, allowed, unbroken, Promise}
@@ -28,9 +28,9 @@ refuses (refuse n k) = true
 
 abbrev lives : Status → Bool
 lives live = true
-lives finishedRun = false
-lives (stoppedRun n) = false
-lives (faultRun n) = false
+lives finished_run = false
+lives (stopped_run n) = false
+lives (fault_run n) = false
 
 module _ {names size : ℕ} {items : List Item} (ok : Accepted names size items) where
   good_unbroken : {m : State} → Good ok m → unbroken m.status ≡ true
@@ -38,9 +38,9 @@ module _ {names size : ℕ} {items : List Item} (ok : Accepted names size items)
     where
       go : (a : Status) → Life ok a m → unbroken a ≡ true
       go live i = refl
-      go finishedRun i = refl
-      go (stoppedRun c) i = i
-      go (faultRun n) i = absurd i
+      go finished_run i = refl
+      go (stopped_run c) i = i
+      go (fault_run n) i = absurd i
 
   module _ (m : State) (c : Control) (o : Offer) where
     -- the promise, and a run that the next step can start from
@@ -54,7 +54,7 @@ module _ {names size : ℕ} {items : List Item} (ok : Accepted names size items)
       record {
         answer = a;
         state = good_unbroken g;
-        wrong_sort_lem = λ e f. no' (sym w ∙ f);
+        of_wrong_sort = λ e f. no' (sym w ∙ f);
         only_wrong = λ e. no' (sym n ∙ ap refuses e);
       },
       g,
@@ -79,7 +79,7 @@ module _ {names size : ℕ} {items : List Item} (ok : Accepted names size items)
         go ready e w = made_kept (sym e) f.fine
         go short e w = right_kept (sym e) refl refl (w refl)
         go amiss e w = (
-          record { answer = refl; state = good_unbroken g; wrong_sort_lem = λ p q. refl; only_wrong = λ q. (a, sym e) },
+          record { answer = refl; state = good_unbroken g; of_wrong_sort = λ p q. refl; only_wrong = λ q. (a, sym e) },
           g,
         )
 
@@ -90,7 +90,7 @@ module _ {names size : ℕ} {items : List Item} (ok : Accepted names size items)
       record {
         answer = h;
         state = good_unbroken g;
-        wrong_sort_lem = λ e f. no' (sym l ∙ ap lives e);
+        of_wrong_sort = λ e f. no' (sym l ∙ ap lives e);
         only_wrong = λ e. no' (sym n ∙ ap refuses e);
       },
       g,
@@ -101,9 +101,9 @@ module _ {names size : ℕ} {items : List Item} (ok : Accepted names size items)
       where
         go : (a : Status) → m.status ≡ a → Life ok a m → Kept (again a m (moved items m (told items m c) o))
         go live e i = comes_kept e g (moved_comes ok m o (told_here ok c i.stands))
-        go finishedRun e i = over_kept finished refl refl (rw e) g
-        go (stoppedRun d) e i = over_kept (stopped d) i refl (rw e) g
-        go (faultRun n) e i = absurd i
+        go finished_run e i = over_kept finished refl refl (rw e) g
+        go (stopped_run d) e i = over_kept (stopped d) i refl (rw e) g
+        go (fault_run n) e i = absurd i
 
   pub fresh_good : Good ok fresh
   fresh_good = land ok outset (inl refl) refl (λ n e. not_nothing n e) tt (fresh_vars (text_kinds items)) refl

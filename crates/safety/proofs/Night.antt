@@ -14,8 +14,9 @@ use Rattle.loader.specs.Load.{loaded}
 use Rattle.rules.specs.Check.{accepted, verdict}
 use Rattle.state.specs.declared.Control.{Control}
 use Rattle.state.specs.declared.Offer.{Offer}
-use Rattle.state.specs.State.{da, ba, code0010, State, Out, enters, leaves, packStart, packEnd, pack_part, says, waits}
-use Rattle.state.specs.State.{setsE, sets_mode, switches_cell, Answer, running, waiting, finished, stopped, refuse}
+use Rattle.state.specs.State.{da, ba, code0010, State, Out, enters}
+use Rattle.state.specs.State.{leaves, pack_start, pack_end, pack_part, says, waits}
+use Rattle.state.specs.State.{sets_e, sets_mode, switches_cell, Answer, running, waiting, finished, stopped, refuse}
 use Rattle.state.specs.State.{fresh}
 use Rattle.steps.specs.Machine.{step}
 use Rattle.safety.specs.Texts.{night}
@@ -43,10 +44,10 @@ at x y = Offer.Point (record { potential = volts x; current = volts y })
 
 abbrev packed : ℕ → ℕ → List Entry
 packed x y =
-    goes (packStart ∷ [])
+    goes (pack_start ∷ [])
     ∷ goes (pack_part (Value.Real (volts x)) da ∷ [])
     ∷ goes (pack_part (Value.Real (volts y)) ba ∷ [])
-    ∷ goes (packEnd ∷ []) ∷ []
+    ∷ goes (pack_end ∷ []) ∷ []
 
 -- up to the first measuring loop
 abbrev settle : List Entry
@@ -57,7 +58,7 @@ settle =
     ∷ goes (says (record { start = 93; end = 97 }) ∷ [])
     ∷ replicate 7 (goes [])
     ++ goes (waits (Value.Real (over (pos 100) 3)) ∷ [])
-    ∷ goes (setsE (Value.Real (volts 0)) ∷ [])
+    ∷ goes (sets_e (Value.Real (volts 0)) ∷ [])
     ∷ []
 
 abbrev whole_run : List Entry
@@ -71,10 +72,10 @@ whole_run =
     ++ goes []
     -- the second point, and a skip in its package: the sweep is left at its endloop
     ∷ (Control.None, at 3 4, running, [])
-    ∷ (Control.Y, Offer.Nothing, running, packStart ∷ [])
+    ∷ (Control.Y, Offer.Nothing, running, pack_start ∷ [])
     ∷ goes (pack_part (Value.Real (volts 3)) da ∷ [])
     ∷ goes (pack_part (Value.Real (volts 4)) ba ∷ [])
-    ∷ goes (packEnd ∷ [])
+    ∷ goes (pack_end ∷ [])
     ∷ goes (leaves LoopSort.Sweep ∷ [])
     -- the loop, once by its if and once by its elseif, which breaks
     ∷ goes (enters LoopSort.Loop ∷ [])

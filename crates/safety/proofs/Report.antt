@@ -10,15 +10,15 @@ use lib.ListN.{length, take}
 use lib.Seq.{take-take}
 use Rattle.table.specs.declared.Table.{Table}
 use Rattle.argument.specs.declared.Refusal.{Refusal}
-use Rattle.argument.specs.Refusal.{number_of as formNumber}
+use Rattle.argument.specs.Refusal.{number_of as form_number}
 use Rattle.loader.specs.declared.Answer.TheVariants as Answer
 use Rattle.loader.specs.declared.Loaded.{Loaded}
-use Rattle.loader.specs.Load.{loaded, meaning as loadedMeaning}
+use Rattle.loader.specs.Load.{loaded, meaning as loaded_meaning}
 use Rattle.loader.proofs.Walk.{not_zero}
 use Rattle.rules.specs.declared.Refusal.{Refusal as Rule}
 use Rattle.rules.specs.declared.Verdict.{Verdict as Judgement}
 use Rattle.rules.specs.Check.{Verdict, accepted, refused, verdict}
-use Rattle.rules.specs.Verdict.{number_of as ruleNumber, meaning as verdictMeaning}
+use Rattle.rules.specs.Verdict.{number_of as rule_number, meaning as verdict_meaning}
 use Rattle.state.specs.declared.Control.{Control}
 use Rattle.state.specs.declared.Offer.{Offer}
 use Rattle.state.specs.State.{fresh}
@@ -35,25 +35,26 @@ use Rattle.safety.specs.declared.Checked.{Checked}
 use Rattle.safety.specs.Outcome.{Outcome, refusal, judged, checked_outcome, outcome, Fixed, meaning, ExactOutcome}
 use Rattle.safety.proofs.Safe.{answers_allowed}
 
-module _ (size : ℕ) (t : Table) (ps : List (Control × Offer)) (v : Judgement) (p : verdictMeaning v ≡ verdict size t)
+module _ (size : ℕ) (t : Table) (ps : List (Control × Offer)) (v : Judgement) (p : verdict_meaning v ≡ verdict size t)
   where
     pub rules_yes : v ≡ Judgement.Accepted
         → checked_outcome size t ps ≡ record { number = 0; line = 0; course = run_from size t fresh ps }
     unfolding checked_outcome
     rules_yes e = rw (← p, e)
 
-    pub rules_no : (r : Rule) (k : ℕ) → v ≡ Judgement.Refused r k → checked_outcome size t ps ≡ refusal (ruleNumber r) k
+    pub rules_no : (r : Rule) (k : ℕ) → v ≡ Judgement.Refused r k
+        → checked_outcome size t ps ≡ refusal (rule_number r) k
     unfolding checked_outcome
     rules_no r k e = rw (← p, e)
 
-module _ (text : List ℕ) (ps : List (Control × Offer)) (l : Loaded) (p : loadedMeaning l ≡ loaded text) where
+module _ (text : List ℕ) (ps : List (Control × Offer)) (l : Loaded) (p : loaded_meaning l ≡ loaded text) where
   pub form_yes : l.answer ≡ Answer.Accepted → outcome text ps ≡ checked_outcome (length text) l.table ps
   unfolding outcome
   form_yes e = rw (← p, e)
 
-  pub form_no : (r : Refusal) (k : ℕ) → l.answer ≡ Answer.Refused r k → outcome text ps ≡ refusal (formNumber r) k
+  pub form_no : (r : Refusal) (k : ℕ) → l.answer ≡ Answer.Refused r k → outcome text ps ≡ refusal (form_number r) k
   unfolding outcome
-  form_no r k e = rw (← p, e, ne_eqb (formNumber r) 0 (not_zero r))
+  form_no r k e = rw (← p, e, ne_eqb (form_number r) 0 (not_zero r))
 
 -- ---- the promise
 

@@ -18,7 +18,7 @@ use Rattle.mates.specs.Mates.{close_of, item_at}
 use Rattle.rules.specs.Check.{is_known, learn, kinds_of}
 use Rattle.rules.proofs.Placed.{Box, Placed}
 use Rattle.rules.proofs.Writes.{learns}
-use Rattle.state.specs.State.{Status, live, finishedRun, stoppedRun, faultRun, State}
+use Rattle.state.specs.State.{Status, live, finished_run, stopped_run, fault_run, State}
 use Rattle.steps.specs.Machine.{outside, is_none, opens_ok, state_ok}
 use Rattle.safety.specs.Safety.{is_code}
 use Rattle.safety.proofs.Laws.{no, no', and_t}
@@ -74,9 +74,9 @@ module _ {names size : ℕ} {items : List Item} (ok : Accepted names size items)
   -- a run that has ended or stopped only repeats its answer; it is never broken by a fault
   abbrev pub Life : Status → State → Type 0
   Life live m = Inv m
-  Life finishedRun m = Unit {0}
-  Life (stoppedRun c) m = is_code c ≡ true
-  Life (faultRun n) m = ⊥
+  Life finished_run m = Unit {0}
+  Life (stopped_run c) m = is_code c ≡ true
+  Life (fault_run n) m = ⊥
 
   pub record Good (m : State) : Type 0 where
     pub shape : state_ok items m ≡ true

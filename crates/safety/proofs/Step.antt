@@ -15,9 +15,10 @@ use Rattle.rules.specs.Check.{is_empty}
 use Rattle.rules.proofs.Placed.{Box, Placed, plains}
 use Rattle.state.specs.declared.Control.{Control}
 use Rattle.state.specs.declared.Offer.{Offer}
-use Rattle.state.specs.State.{State, Out, Step, said, Meets, ready, short, amiss, wantsNothing, wanted_by, meets}
+use Rattle.state.specs.State.{State, Out, Step, said, Meets, ready, short, amiss, wants_nothing, wanted_by, meets}
 use Rattle.state.specs.State.{cleared, flagged}
-use Rattle.steps.specs.Machine.{is_empty as noneOpen, any_open, leave_outs, is_none, next, run, served, finish, at_item}
+use Rattle.steps.specs.Machine.{is_empty as has_none_open, any_open, leave_outs, is_none}
+use Rattle.steps.specs.Machine.{next, run, served, finish, at_item}
 use Rattle.steps.specs.Machine.{told, tag_from, ahead, abort_due, aborted, moved, state_ok}
 use Rattle.safety.specs.Safety.{wanted_from, wanted_at, is_amiss}
 use Rattle.steps.proofs.Stepping.{ahead_is}
@@ -35,7 +36,7 @@ is_short short = true
 is_short amiss = false
 
 -- where nothing is wanted there is no wait
-quiet_short : (o : Offer) → is_short (meets wantsNothing o) ≡ false
+quiet_short : (o : Offer) → is_short (meets wants_nothing o) ≡ false
 quiet_short Offer.Nothing = refl
 quiet_short (Offer.Float x) = refl
 quiet_short (Offer.Point p) = refl
@@ -54,10 +55,10 @@ module _ {names size : ℕ} {items : List Item} (ok : Accepted names size items)
     pub fine : FineStep ok made
 
   quiet_comes : (m m₁ : State) (o : Offer) (s : Step) → FineStep ok s
-      → Comes m (is_amiss (meets wantsNothing o)) (served m m₁ (meets wantsNothing o) s)
+      → Comes m (is_amiss (meets wants_nothing o)) (served m m₁ (meets wants_nothing o) s)
   quiet_comes m m₁ o s f =
       record {
-        met = meets wantsNothing o;
+        met = meets wants_nothing o;
         m₁ = m₁;
         made = s;
         is = refl;
@@ -67,7 +68,7 @@ module _ {names size : ℕ} {items : List Item} (ok : Accepted names size items)
       }
 
   finish_comes : (m₀ m : State) (o : Offer) (os : List Out) → state_ok items m ≡ true
-      → Comes m₀ (is_amiss (meets wantsNothing o)) (finish m₀ m o os)
+      → Comes m₀ (is_amiss (meets wants_nothing o)) (finish m₀ m o os)
   finish_comes m₀ m o os g = quiet_comes m₀ m o _ (record { shape = g; life = tt })
 
   -- ---- an abort: to the tag, or to the end
@@ -99,10 +100,10 @@ module _ {names size : ℕ} {items : List Item} (ok : Accepted names size items)
   -- ---- from where the walk stood, m₀ before the step and m with the control
 
   module _ (m₀ : State) {m : State} {su : Names} {l : List Box} {p tg : Bool} {k : Kinds} (o : Offer) where
-    end_boxes : Here ok m su l p tg k [] → noneOpen m.boxes ≡ true
+    end_boxes : Here ok m su l p tg k [] → has_none_open m.boxes ≡ true
     end_boxes h = go l h.boxes (ends ok h.reach).0
       where
-        go : (l : List Box) → Opened m.at [] m.boxes l → is_empty (plains l) ≡ true → noneOpen m.boxes ≡ true
+        go : (l : List Box) → Opened m.at [] m.boxes l → is_empty (plains l) ≡ true → has_none_open m.boxes ≡ true
         go [] (inl q) e = rw q
         go (b ∷ bs) (inl q) e = no' e
         go l (inr q) e = no' q.1
@@ -110,7 +111,7 @@ module _ {names size : ℕ} {items : List Item} (ok : Accepted names size items)
     item_comes : (xs : List Item) → Here ok m su l p tg k xs
         → Comes m₀ (is_amiss (meets (wanted_from xs) o)) (at_item items m₀ m o xs)
     item_comes [] h =
-        let z : lowest ((62, not (noneOpen m.boxes)) ∷ (64, m.packed) ∷ []) ≡ 0 =
+        let z : lowest ((62, not (has_none_open m.boxes)) ∷ (64, m.packed) ∷ []) ≡ 0 =
         rw (end_boxes h, h.packed, (ends ok h.reach).1) in
         rw z (finish_comes m₀ m o [] (shape_of ok h))
     item_comes (x ∷ xs) h =
@@ -133,14 +134,14 @@ module _ {names size : ℕ} {items : List Item} (ok : Accepted names size items)
       to_end = finish m₀ (cleared m m.at) o (leave_outs items m.boxes)
 
       abbrev to_tag : ℕ → Step
-      to_tag i = served m₀ (cleared m i) (meets wantsNothing o) (said (leave_outs items m.boxes) (next (cleared m i)))
+      to_tag i = served m₀ (cleared m i) (meets wants_nothing o) (said (leave_outs items m.boxes) (next (cleared m i)))
 
-      ending : Comes m₀ (is_amiss (meets wantsNothing o)) to_end
+      ending : Comes m₀ (is_amiss (meets wants_nothing o)) to_end
       ending =
           finish_comes m₀ (cleared m m.at) o (leave_outs items m.boxes)
           (cleared_ok m.at (omega (arith, (static ok h.reach).span)))
 
-      tag_comes : {i : ℕ} → m.packed ≡ false → Tagged i → Comes m₀ (is_amiss (meets wantsNothing o)) (to_tag i)
+      tag_comes : {i : ℕ} → m.packed ≡ false → Tagged i → Comes m₀ (is_amiss (meets wants_nothing o)) (to_tag i)
       tag_comes {i} q g =
           quiet_comes m₀ (cleared m i) o _
           (land ok (more at_tag) (inl refl) q (λ n e. not_nothing n e) tt h.vars h.living)
@@ -152,7 +153,7 @@ module _ {names size : ℕ} {items : List Item} (ok : Accepted names size items)
           at_tag = rw (boxes, (clean ok g.reach).packed) at g.reach
 
       abort_comes : (f : Option ℕ) → ahead m.at (tag_from 0 items) ≡ f → m.packed ≡ false
-          → Comes m₀ (is_amiss (meets wantsNothing o)) (aborted items m₀ m o f)
+          → Comes m₀ (is_amiss (meets wants_nothing o)) (aborted items m₀ m o f)
       abort_comes none e q = ending
       abort_comes (some i) e q = tag_comes q (find_tag items 0 i outset (ahead_is m.at (tag_from 0 items) i e))
 
@@ -160,7 +161,7 @@ module _ {names size : ℕ} {items : List Item} (ok : Accepted names size items)
       moved_comes = go (abort_due items m) refl
         where
           go : (b : Bool) → abort_due items m ≡ b
-              → Comes m₀ (is_amiss (meets (cond b wantsNothing (wanted_from (drop m.at items))) o))
+              → Comes m₀ (is_amiss (meets (cond b wants_nothing (wanted_from (drop m.at items))) o))
               (cond b (aborted items m₀ m o (ahead m.at (tag_from 0 items)))
               (at_item items m₀ m o (drop m.at items)))
           go true e =

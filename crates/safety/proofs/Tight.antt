@@ -5,7 +5,7 @@ use mathlib.Core.Bool.{cond}
 use mathlib.Core.List.{List}
 use lib.Dec.{eqb, ltb}
 use Rattle.argument.specs.declared.Refusal.{Refusal}
-use Rattle.argument.specs.Refusal.{number_of as formNumber}
+use Rattle.argument.specs.Refusal.{number_of as form_number}
 use Rattle.rules.proofs.Tight.{rule_of}
 use Rattle.rules.specs.declared.Refusal.TheVariants as Rule
 use Rattle.course.specs.declared.Steps.{Steps}
@@ -35,7 +35,7 @@ judged_of n k = cond (eqb n 0) Judged.Accepted (cond (ltb n 19) (Judged.Form (fo
     (rule_of n) k))
 
 judged_back : (j : Judged) → judged_of (number_of j) (line_of j) ≡ j
-unfolding judged_of form_of formNumber
+unfolding judged_of form_of form_number
 judged_back Judged.Accepted = refl
 judged_back (Judged.Form Refusal.TooLong k) = refl
 judged_back (Judged.Form Refusal.NoEnd k) = refl

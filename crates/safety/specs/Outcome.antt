@@ -2,10 +2,10 @@
 -- each step.
 use Rattle.std.specs.Prelude.{ℕ, ◌≡◌, true, cond, List, [], ◌++◌, eqb, length}
 use Rattle.table.specs.declared.Table.{Table}
-use Rattle.argument.specs.Refusal.{number_of as formNumber}
+use Rattle.argument.specs.Refusal.{number_of as form_number}
 use Rattle.loader.specs.Load.{loaded}
 use Rattle.rules.specs.Check.{Verdict, accepted, refused, verdict}
-use Rattle.rules.specs.Verdict.{number_of as ruleNumber}
+use Rattle.rules.specs.Verdict.{number_of as rule_number}
 use Rattle.state.specs.declared.Control.{Control}
 use Rattle.state.specs.declared.Offer.{Offer}
 use Rattle.course.specs.declared.Ran.{Ran}
@@ -47,8 +47,8 @@ outcome text ps =
 
 abbrev pub number_of : Judged → ℕ
 number_of Judged.Accepted = 0
-number_of (Judged.Form r k) = formNumber r
-number_of (Judged.Rules r k) = ruleNumber r
+number_of (Judged.Form r k) = form_number r
+number_of (Judged.Rules r k) = rule_number r
 
 abbrev pub line_of : Judged → ℕ
 line_of Judged.Accepted = 0

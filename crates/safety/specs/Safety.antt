@@ -12,8 +12,8 @@ use Rattle.loader.specs.Load.{loaded}
 use Rattle.rules.specs.Check.{accepted, refused, verdict}
 use Rattle.state.specs.declared.Control.{Control}
 use Rattle.state.specs.declared.Offer.{Offer}
-use Rattle.state.specs.State.{Status, live, finishedRun, stoppedRun, faultRun, code0028, code0010, State, Answer}
-use Rattle.state.specs.State.{running, waiting, finished, stopped, fault, refuse, Step, fresh, Wanted, wantsNothing}
+use Rattle.state.specs.State.{Status, live, finished_run, stopped_run, fault_run, code0028, code0010, State, Answer}
+use Rattle.state.specs.State.{running, waiting, finished, stopped, fault, refuse, Step, fresh, Wanted, wants_nothing}
 use Rattle.state.specs.State.{wanted_by, Meets, ready, short, amiss, meets}
 use Rattle.steps.specs.Machine.{abort_due, told, step}
 use Rattle.course.specs.Course.{run_from}
@@ -22,12 +22,12 @@ use Rattle.course.specs.Course.{run_from}
 
 -- a step at the end of the items wants nothing
 abbrev pub wanted_from : List Item → Wanted
-wanted_from [] = wantsNothing
+wanted_from [] = wants_nothing
 wanted_from (x ∷ xs) = wanted_by x
 
 -- a step in which an abort takes effect wants nothing
 abbrev pub wanted_at : List Item → State → Wanted
-wanted_at xs m = cond (abort_due xs m) wantsNothing (wanted_from (drop m.at xs))
+wanted_at xs m = cond (abort_due xs m) wants_nothing (wanted_from (drop m.at xs))
 
 -- of the wrong sort: something is offered, and it is not what is wanted; nothing where something is wanted waits
 abbrev pub is_amiss : Meets → Bool
@@ -56,16 +56,16 @@ allowed (refuse n k) = eqb n 31 && eqb k 0
 
 abbrev pub unbroken : Status → Bool
 unbroken live = true
-unbroken finishedRun = true
-unbroken (stoppedRun n) = is_code n
-unbroken (faultRun n) = false
+unbroken finished_run = true
+unbroken (stopped_run n) = is_code n
+unbroken (fault_run n) = false
 
 -- what is promised of a step s of the run m
 pub record Promise (items : List Item) (m : State) (c : Control) (o : Offer) (s : Step) : Type 0 where
   pub answer : allowed s.answer ≡ true
   pub state : unbroken s.next.status ≡ true
   -- until the run ends, an offer of the wrong sort is refused by 31, hands out nothing and changes nothing
-  pub wrong_sort_lem : m.status ≡ live → wrong_sort items m c o ≡ true
+  pub of_wrong_sort : m.status ≡ live → wrong_sort items m c o ≡ true
       → s ≡ record { answer = refuse 31 0; outs = []; next = m }
   -- and 31 comes of nothing else
   pub only_wrong : s.answer ≡ refuse 31 0 → (m.status ≡ live) × (wrong_sort items m c o ≡ true)

@@ -9,7 +9,7 @@ use value::{Calculated, Value};
 
 // What an offer is to an item that wants nothing.
 pub fn asks_nothing(o: Offer) -> Meets
-    ensures { meets_of result ≡ rules.meets rules.wantsNothing o }
+    ensures { meets_of result ≡ rules.meets rules.wants_nothing o }
 {
     match o {
         Offer::Nothing => Meets::Ready,
@@ -21,7 +21,7 @@ pub fn asks_nothing(o: Offer) -> Meets
 
 // What an offer is to an item that wants one float.
 pub fn asks_float(o: Offer) -> Meets
-    ensures { meets_of result ≡ rules.meets rules.wantsFloat o }
+    ensures { meets_of result ≡ rules.meets rules.wants_float o }
 {
     match o {
         Offer::Nothing => Meets::Short,
@@ -33,7 +33,7 @@ pub fn asks_float(o: Offer) -> Meets
 
 // What an offer is to an item that wants a point or that the points are done.
 pub fn asks_point(o: Offer) -> Meets
-    ensures { meets_of result ≡ rules.meets rules.wantsPoint o }
+    ensures { meets_of result ≡ rules.meets rules.wants_point o }
 {
     match o {
         Offer::Nothing => Meets::Short,

@@ -244,12 +244,12 @@ module _ (vs : Vars) (before s : Spot) where
 module _ (vs : Vars) (before s : Spot) (xs : List Item) (o : Offer) where
   to_tag : (i : ℕ) → i < 128 → (os : List Out)
       → step_of os vs (effects.leave_all before (effects.clear s (effects.after i)) Status.Live Answer.Running o)
-      ≡ served (live_state vs before) (cleared (live_state vs s) i) (states.meets states.wantsNothing o)
+      ≡ served (live_state vs before) (cleared (live_state vs s) i) (states.meets states.wants_nothing o)
       (said os (next (cleared (live_state vs s) i)))
   to_tag i h os = rw (after_is i h) (go o)
     where
       go : (o : Offer) → step_of os vs (effects.leave_all before (effects.clear s (suc i)) Status.Live Answer.Running o)
-          ≡ served (live_state vs before) (cleared (live_state vs s) i) (states.meets states.wantsNothing o)
+          ≡ served (live_state vs before) (cleared (live_state vs s) i) (states.meets states.wants_nothing o)
           (said os (next (cleared (live_state vs s) i)))
       go Offer.Nothing = refl
       go (Offer.Float x) = refl

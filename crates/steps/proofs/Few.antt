@@ -12,8 +12,9 @@ use Rattle.table.specs.ReadWrite.{lowest}
 use Rattle.table.specs.Shape.{in_shape, items_of}
 use Rattle.state.specs.declared.Control.{Control}
 use Rattle.state.specs.declared.Offer.{Offer}
-use Rattle.state.specs.State.{State, Status, live, finishedRun, stoppedRun, faultRun, Step, Meets, ready, short, amiss}
-use Rattle.state.specs.State.{wantsNothing, wanted_by, meets, cleared}
+use Rattle.state.specs.State.{State, Status, live, finished_run, stopped_run}
+use Rattle.state.specs.State.{fault_run, Step, Meets, ready, short, amiss}
+use Rattle.state.specs.State.{wants_nothing, wanted_by, meets, cleared}
 use Rattle.steps.specs.Machine as rules
 use Rattle.steps.specs.Machine.{run, served, or_fault, finish, faults, tries, at_item, tag_from, ahead, abort_due}
 use Rattle.steps.specs.Machine.{aborted, told, moved, again, is_empty, state_ok, step}
@@ -39,7 +40,7 @@ few_fault (suc n) m s p = zero-le
 few_item : (xs : List Item) (m₀ m : State) (o : Offer) (rest : List Item) → Few (at_item xs m₀ m o rest)
 few_item xs m₀ m o [] =
     few_fault (lowest ((62, not (is_empty m.boxes)) ∷ (64, m.packed) ∷ [])) m (finish m₀ m o [])
-    (few_served m₀ m (meets wantsNothing o) _ zero-le)
+    (few_served m₀ m (meets wants_nothing o) _ zero-le)
 few_item xs m₀ m o (x ∷ rest) =
     few_fault (lowest (faults xs m x)) m (or_fault (tries xs m x) m (served m₀ m (meets (wanted_by x) o)
     (run xs m x o)))
@@ -49,9 +50,9 @@ few_item xs m₀ m o (x ∷ rest) =
 few_aborted : (xs : List Item) (m₀ m : State) (o : Offer) (p : Option ℕ) → length m.boxes ≤ 8
     → Few (aborted xs m₀ m o p)
 few_aborted xs m₀ m o none h =
-    few_served m₀ (cleared m m.at) (meets wantsNothing o) _ (omega (arith, few_leaves xs m.boxes))
+    few_served m₀ (cleared m m.at) (meets wants_nothing o) _ (omega (arith, few_leaves xs m.boxes))
 few_aborted xs m₀ m o (some i) h =
-    few_served m₀ (cleared m i) (meets wantsNothing o) _ (omega (arith, few_leaves xs m.boxes))
+    few_served m₀ (cleared m i) (meets wants_nothing o) _ (omega (arith, few_leaves xs m.boxes))
 
 few_moved : (xs : List Item) (m₀ m : State) (o : Offer) → length m.boxes ≤ 8 → Few (moved xs m₀ m o)
 few_moved xs m₀ m o h =
@@ -60,9 +61,9 @@ few_moved xs m₀ m o h =
 
 few_again : (t : Status) (m : State) (s : Step) → Few s → Few (again t m s)
 few_again live m s p = p
-few_again finishedRun m s p = zero-le
-few_again (stoppedRun c) m s p = zero-le
-few_again (faultRun n) m s p = zero-le
+few_again finished_run m s p = zero-le
+few_again (stopped_run c) m s p = zero-le
+few_again (fault_run n) m s p = zero-le
 
 told_same : (xs : List Item) (m : State) (c : Control) → (told xs m c).boxes ≡ m.boxes
 told_same xs m Control.None = refl

@@ -11,8 +11,8 @@ use Rattle.table.specs.ReadWrite.{lowest}
 use Rattle.table.specs.Shape.{items_of, in_shape}
 use Rattle.state.specs.declared.Control.{Control}
 use Rattle.state.specs.declared.Offer.{Offer}
-use Rattle.state.specs.State.{State, Status, live, finishedRun, stoppedRun, faultRun, Out, Step, Meets, ready, short}
-use Rattle.state.specs.State.{amiss, wantsNothing, wanted_by, meets, cleared, flagged, is_held, stays, Answer, running}
+use Rattle.state.specs.State.{State, Status, live, finished_run, stopped_run, fault_run, Out, Step, Meets, ready, short}
+use Rattle.state.specs.State.{amiss, wants_nothing, wanted_by, meets, cleared, flagged, is_held, stays, Answer, running}
 use Rattle.state.specs.State.{waiting, finished, stopped, fault, refuse}
 use Rattle.steps.specs.Machine.{run, served, or_fault, finish, faults, tries, at_item, leave_outs, tag_from, ahead}
 use Rattle.steps.specs.Machine.{abort_due, aborted, moved, again, is_empty, told, state_ok, shapeless, step}
@@ -43,7 +43,7 @@ served_held m₀ m short s p = λ q. (refl, refl)
 served_held m₀ m amiss s p = λ q. (refl, refl)
 
 -- where nothing is wanted, nobody waits
-calm_held : (m₀ m n : State) (o : Offer) (s : Step) → Plain s → Held m₀ m (served m₀ n (meets wantsNothing o) s)
+calm_held : (m₀ m n : State) (o : Offer) (s : Step) → Plain s → Held m₀ m (served m₀ n (meets wants_nothing o) s)
 calm_held m₀ m n Offer.Nothing s p = plain_held m₀ m s p
 calm_held m₀ m n (Offer.Float x) s p = λ q. (refl, refl)
 calm_held m₀ m n (Offer.Point x) s p = λ q. (refl, refl)
@@ -86,9 +86,9 @@ Rests k m₀ m s = stays k s.answer ≡ true → (s.outs ≡ []) × (s.next ≡ 
 again_rests : (k : Status) (xs : List Item) (m₀ m : State) (o : Offer)
     → Rests k m₀ m (again k m₀ (moved xs m₀ m o))
 again_rests live xs m₀ m o = moved_held xs m₀ m o
-again_rests finishedRun xs m₀ m o = λ q. (refl, refl)
-again_rests (stoppedRun c) xs m₀ m o = λ q. (refl, refl)
-again_rests (faultRun n) xs m₀ m o = λ q. (refl, refl)
+again_rests finished_run xs m₀ m o = λ q. (refl, refl)
+again_rests (stopped_run c) xs m₀ m o = λ q. (refl, refl)
+again_rests (fault_run n) xs m₀ m o = λ q. (refl, refl)
 
 shapeless_rests : (m₀ m : State) → Rests m₀.status m₀ m (shapeless m₀)
 shapeless_rests m₀ m = λ q. (refl, refl)

@@ -32,8 +32,8 @@ use Rattle.state.specs.declared.LoopSort.{LoopSort}
 use Rattle.state.specs.declared.Offer.{Offer}
 use Rattle.state.specs.State.{measures, Vars, cell_at, cell_type, value_of, holds, write, da, ba, eb, State, Status}
 use Rattle.state.specs.State.{live}
-use Rattle.state.specs.State.{finishedRun, stoppedRun, faultRun, Out, Step, Meets, ready, short, amiss, goto, keep}
-use Rattle.state.specs.State.{unskip, end_with, reading, code0010, wantsNothing, wanted_by, meets, cleared, cells_ok}
+use Rattle.state.specs.State.{finished_run, stopped_run, fault_run, Out, Step, Meets, ready, short, amiss, goto, keep}
+use Rattle.state.specs.State.{unskip, end_with, reading, code0010, wants_nothing, wanted_by, meets, cleared, cells_ok}
 use Rattle.state.specs.State as runs
 use Rattle.steps.specs.Machine.{Chosen, into, beyond, bad, otherwise, next, unwind, outside, leave_outs, is_none}
 use Rattle.steps.specs.Machine.{is_empty, faults, kept, run_act, run_pack, chosen, enter, leave, run_point, run_sweep}
@@ -72,8 +72,8 @@ module _ (xs : List Item) where
   kept_lasts m n t (Calculated.Value v) s h f =
       next_lasts (keep m (write m.vars n v t))
       (keep_lasts m (write m.vars n v t) s (cells-set m.vars n (Cell.Holds v t) s.cells f)) h
-  kept_lasts m n t Calculated.ByZero s h f = end_lasts m (stoppedRun runs.code0028) s
-  kept_lasts m n t Calculated.NotFinite s h f = end_lasts m (stoppedRun code0010) s
+  kept_lasts m n t Calculated.ByZero s h f = end_lasts m (stopped_run runs.code0028) s
+  kept_lasts m n t Calculated.NotFinite s h f = end_lasts m (stopped_run code0010) s
 
   module _ (names size : ℕ) where
     stored_fine : (v : ℕ) (l : Value) (t : ℕ) → item_ok names size (Item.Act (Act.Store v l t)) ≡ true → finite l ≡ true
@@ -134,7 +134,7 @@ module _ (xs : List Item) where
   chosen_lasts m (into i) s f b w =
       goto_lasts m i (m.at ∷ m.boxes) s w f (and_t b s.boxes)
   chosen_lasts m (beyond i) s f b w = goto_lasts m i m.boxes s w s.few s.boxes
-  chosen_lasts m (bad n) s f b w = end_lasts m (faultRun n) s
+  chosen_lasts m (bad n) s f b w = end_lasts m (fault_run n) s
 
   point_lasts : (m : State) (w : Sweep) (x y : Float) → Shaped xs m → m.at < length xs → box_ok xs m.at ≡ true
       → ninth m true ≡ false → Shaped xs (run_point m w x y).next
@@ -148,7 +148,7 @@ module _ (xs : List Item) where
       (and_r (finite (Value.Real x)) (finite (Value.Real y)) q) in
       let vs = write us w.current (Value.Real y) ba in
       enter_lasts LoopSort.Sweep (keep m vs) (keep_lasts m vs s second) h b e)
-      (λ q. end_lasts m (stoppedRun code0010) s)
+      (λ q. end_lasts m (stopped_run code0010) s)
 
   sweep_lasts : (m : State) (w : Sweep) (o : Offer) → Shaped xs m → m.at < length xs → box_ok xs m.at ≡ true
       → ninth m true ≡ false → Shaped xs (run_sweep xs m w o).next
@@ -176,7 +176,7 @@ module _ (xs : List Item) where
 
   branch_lasts : (m : State) (ps : List ℕ) → Shaped xs m → opens_ok xs ps ≡ true → length ps ≤ 8
       → Shaped xs (run_branch xs m ps).next
-  branch_lasts m [] s e f = end_lasts m (faultRun 62) s
+  branch_lasts m [] s e f = end_lasts m (fault_run 62) s
   branch_lasts m (p ∷ ps) s e f = inner_lasts m p ps (past (close_of xs p)) s e f (past_within xs p)
 
   box_below : (p : ℕ) → box_ok xs p ≡ true → p ≤ length xs
@@ -188,7 +188,7 @@ module _ (xs : List Item) where
 
   close_lasts : (m : State) (c : Close) (ps : List ℕ) → Shaped xs m → m.at < length xs → opens_ok xs ps ≡ true
       → length ps ≤ 8 → Shaped xs (run_close xs m c ps).next
-  close_lasts m c [] s h e f = end_lasts m (faultRun 62) s
+  close_lasts m c [] s h e f = end_lasts m (fault_run 62) s
   close_lasts m Close.EndIf (p ∷ ps) s h e f = inner_lasts m p ps (suc m.at) s e f h
   close_lasts m Close.EndLoop (p ∷ ps) s h e f =
       cond_lasts (opens_a is_sweep (item_at xs p) && (m.pending || m.skip)) _ _
@@ -197,7 +197,7 @@ module _ (xs : List Item) where
 
   break_lasts : (m : State) (ps : List ℕ) → Shaped xs m → opens_ok xs ps ≡ true → length ps ≤ 8
       → Shaped xs (run_break xs m ps).next
-  break_lasts m [] s e f = end_lasts m (faultRun 62) s
+  break_lasts m [] s e f = end_lasts m (fault_run 62) s
   break_lasts m (p ∷ ps) s e f =
       unskip_lasts (opens_a is_sweep (item_at xs p)) (goto m (past (close_of xs p)) ps)
       (inner_lasts m p ps (past (close_of xs p)) s e f (past_within xs p))
@@ -234,13 +234,13 @@ module _ (xs : List Item) where
   fault_lasts : (n : ℕ) (m : State) (t : Step) → Shaped xs m → (n ≡ 0 → Shaped xs t.next)
       → Shaped xs (or_fault n m t).next
   fault_lasts zero m t s f = f refl
-  fault_lasts (suc n) m t s f = end_lasts m (faultRun (suc n)) s
+  fault_lasts (suc n) m t s f = end_lasts m (fault_run (suc n)) s
 
   finish_lasts : (m₀ m : State) (o : Offer) (os : List Out) → Shaped xs m₀ → Shaped xs m
       → Shaped xs (finish m₀ m o os).next
   finish_lasts m₀ m o os a b =
-      served_lasts m₀ m (meets wantsNothing o)
-      (record { answer = runs.finished; outs = os; next = end_with m finishedRun }) a b (end_lasts m finishedRun b)
+      served_lasts m₀ m (meets wants_nothing o)
+      (record { answer = runs.finished; outs = os; next = end_with m finished_run }) a b (end_lasts m finished_run b)
 
   items_at : (names size : ℕ) (ys : List Item) (i : ℕ) → items_ok names size ys ≡ true → i < length ys
       → item_ok names size (get_or ys i Item.Tag) ≡ true
@@ -278,7 +278,7 @@ module _ (xs : List Item) where
   aborted_lasts m₀ m o (some i) e a b =
       let h = tag_below xs i (ahead_is m.at (tag_from 0 xs) i e) in
       let c = cleared_lasts m i b (omega (arith, h)) in
-      served_lasts m₀ (cleared m i) (meets wantsNothing o) _ a c (next_lasts (cleared m i) c h)
+      served_lasts m₀ (cleared m i) (meets wants_nothing o) _ a c (next_lasts (cleared m i) c h)
 
   told_lasts : (m : State) (c : Control) → Shaped xs m → Shaped xs (told xs m c)
   told_lasts m Control.None s = s
@@ -293,9 +293,9 @@ module _ (xs : List Item) where
 
   again_lasts : (t : Status) (m : State) (s : Step) → Shaped xs m → Shaped xs s.next → Shaped xs (again t m s).next
   again_lasts live m s a b = b
-  again_lasts finishedRun m s a b = a
-  again_lasts (stoppedRun c) m s a b = a
-  again_lasts (faultRun n) m s a b = a
+  again_lasts finished_run m s a b = a
+  again_lasts (stopped_run c) m s a b = a
+  again_lasts (fault_run n) m s a b = a
 
 module _ (size : ℕ) (s : Table) (m : State) (c : Control) (o : Offer) (t : in_shape size s ≡ true)
     (e : state_ok (items_of s) m ≡ true) where
@@ -309,17 +309,17 @@ module _ (size : ℕ) (s : Table) (m : State) (c : Control) (o : Offer) (t : in_
       (moved_lasts (items_of s) s.names size m (told (items_of s) m c) o k a (told_lasts (items_of s) m c a))))
 
   -- an ended run repeats its answer to any control and offer, handing out nothing
-  pub ended_finished : m.status ≡ finishedRun
+  pub ended_finished : m.status ≡ finished_run
       → step size s m c o ≡ record { answer = runs.finished; outs = []; next = m }
   unfolding step
   ended_finished q = rw (t, e, q)
 
-  pub ended_stopped : (n : ℕ) → m.status ≡ stoppedRun n
+  pub ended_stopped : (n : ℕ) → m.status ≡ stopped_run n
       → step size s m c o ≡ record { answer = runs.stopped n; outs = []; next = m }
   unfolding step
   ended_stopped n q = rw (t, e, q)
 
-  pub ended_fault : (n : ℕ) → m.status ≡ faultRun n
+  pub ended_fault : (n : ℕ) → m.status ≡ fault_run n
       → step size s m c o ≡ record { answer = runs.fault n; outs = []; next = m }
   unfolding step
   ended_fault n q = rw (t, e, q)

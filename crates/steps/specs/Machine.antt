@@ -39,11 +39,11 @@ use Rattle.state.specs.declared.LoopSort.{LoopSort}
 use Rattle.state.specs.declared.Offer.{Offer}
 use Rattle.state.specs.State.{measures, Vars, cell_at, cell_type, cell_value, written, kind_now, value_of, holds, write}
 use Rattle.state.specs.State.{da}
-use Rattle.state.specs.State.{ba, eb, cells_ok, Status, live, finishedRun, stoppedRun, faultRun, code0028, code0010}
+use Rattle.state.specs.State.{ba, eb, cells_ok, Status, live, finished_run, stopped_run, fault_run, code0028, code0010}
 use Rattle.state.specs.State.{State, goto, keep, unskip, end_with, packing, pend, told_in, cleared, Out, enters, leaves}
-use Rattle.state.specs.State.{packStart, packEnd, pack_part, says, waits, setsE, sets_mode, switches_cell, waiting}
+use Rattle.state.specs.State.{pack_start, pack_end, pack_part, says, waits, sets_e, sets_mode, switches_cell, waiting}
 use Rattle.state.specs.State.{finished, stopped, fault, refuse, Step, said, faults_by, stops_by, Meets, ready, short}
-use Rattle.state.specs.State.{amiss, wantsNothing, wanted_by, meets, reading}
+use Rattle.state.specs.State.{amiss, wants_nothing, wanted_by, meets, reading}
 
 -- ---- the open boxes
 
@@ -136,7 +136,7 @@ run_act m (Act.Meas f v t) o = kept m v t (checked (reading o))
 run_act m (Act.TimerGet v) o = kept m v eb (checked (reading o))
 run_act m (Act.SendString t) o = said (says t ∷ []) (next m)
 run_act m (Act.Wait f) o = said (waits (value_of m.vars f) ∷ []) (next m)
-run_act m (Act.SetE f) o = said (setsE (value_of m.vars f) ∷ []) (next m)
+run_act m (Act.SetE f) o = said (sets_e (value_of m.vars f) ∷ []) (next m)
 run_act m (Act.SetMode n) o = said (sets_mode n ∷ []) (next m)
 run_act m Act.TimerStart o = said [] (next m)
 run_act m Act.CellOn o = said (switches_cell true ∷ []) (next m)
@@ -144,8 +144,8 @@ run_act m Act.CellOff o = said (switches_cell false ∷ []) (next m)
 run_act m Act.Abort o = said [] (next (pend m))
 
 abbrev pub run_pack : State → Pack → Step
-run_pack m Pack.Start = said (packStart ∷ []) (next (packing m true))
-run_pack m Pack.End = said (packEnd ∷ []) (next (packing m false))
+run_pack m Pack.Start = said (pack_start ∷ []) (next (packing m true))
+run_pack m Pack.End = said (pack_end ∷ []) (next (packing m false))
 run_pack m (Pack.Add v) = said (pack_part (cell_value (cell_at m.vars v)) (cell_type (cell_at m.vars v)) ∷ []) (next m)
 
 -- where a false condition leads: into a branch, past endif, or to a fault of the elseif tried
@@ -264,7 +264,7 @@ or_fault (suc n) m s = faults_by (suc n) m
 -- the run finishes, wanting nothing
 abbrev pub finish : State → State → Offer → List Out → Step
 finish m₀ m o os =
-    served m₀ m (meets wantsNothing o) (record { answer = finished; outs = os; next = end_with m finishedRun })
+    served m₀ m (meets wants_nothing o) (record { answer = finished; outs = os; next = end_with m finished_run })
 
 abbrev pub at_end : State → State → Offer → Step
 at_end m₀ m o = or_fault (lowest ((62, not (is_empty m.boxes)) ∷ (64, m.packed) ∷ [])) m (finish m₀ m o [])
@@ -314,7 +314,7 @@ abort_due xs m = m.pending && not (any_open is_sweep xs m.boxes) && not m.packed
 abbrev pub aborted : List Item → State → State → Offer → Option ℕ → Step
 aborted xs m₀ m o none = finish m₀ (cleared m m.at) o (leave_outs xs m.boxes)
 aborted xs m₀ m o (some i) =
-    served m₀ (cleared m i) (meets wantsNothing o) (said (leave_outs xs m.boxes) (next (cleared m i)))
+    served m₀ (cleared m i) (meets wants_nothing o) (said (leave_outs xs m.boxes) (next (cleared m i)))
 
 abbrev pub moved : List Item → State → State → Offer → Step
 moved xs m₀ m o =
@@ -323,9 +323,9 @@ moved xs m₀ m o =
 -- a run that has ended repeats its answer, handing out nothing
 abbrev pub again : Status → State → Step → Step
 again live m s = s
-again finishedRun m s = record { answer = finished; outs = []; next = m }
-again (stoppedRun c) m s = record { answer = stopped c; outs = []; next = m }
-again (faultRun n) m s = record { answer = fault n; outs = []; next = m }
+again finished_run m s = record { answer = finished; outs = []; next = m }
+again (stopped_run c) m s = record { answer = stopped c; outs = []; next = m }
+again (fault_run n) m s = record { answer = fault n; outs = []; next = m }
 
 -- ---- the state's shape
 

@@ -12,8 +12,8 @@ use native.Mathlib.Nat.{mod-lt}
 use native.Mathlib.Omega.{arith}
 use Prim.Native.Nat.{ℕ, suc, ◌+◌, ◌-◌, ◌/◌, ◌%◌, ◌<◌}
 use Rattle.state.specs.declared.LoopSort.TheVariants as LoopSort
-use Rattle.state.specs.State.{Out, nought, enters, leaves as leavesLoop, packStart, packEnd, pack_part, says, waits}
-use Rattle.state.specs.State.{setsE, sets_mode, switches_cell}
+use Rattle.state.specs.State.{Out, nought, enters, leaves as leaves_loop, pack_start, pack_end, pack_part, says, waits}
+use Rattle.state.specs.State.{sets_e, sets_mode, switches_cell}
 use Rattle.text.proofs.Decimals.{alone_back, alone_rest, decimal_back, decimal_rest}
 use Rattle.text.proofs.Put.{front}
 use Rattle.text.specs.Decimal.{decimal, number}
@@ -98,14 +98,14 @@ pub reads_back : ReadsBack
 reads_back nought h = refl
 reads_back (enters LoopSort.Loop) h = refl
 reads_back (enters LoopSort.Sweep) h = refl
-reads_back (leavesLoop LoopSort.Loop) h = refl
-reads_back (leavesLoop LoopSort.Sweep) h = refl
-reads_back packStart h = refl
-reads_back packEnd h = refl
+reads_back (leaves_loop LoopSort.Loop) h = refl
+reads_back (leaves_loop LoopSort.Sweep) h = refl
+reads_back pack_start h = refl
+reads_back pack_end h = refl
 reads_back (pack_part v t) h = part_back v t h.0 h.1
 reads_back (says t) h = range_back t.start t.end
 reads_back (waits v) h = ap waits (amount_back v h)
-reads_back (setsE v) h = ap setsE (amount_back v h)
+reads_back (sets_e v) h = ap sets_e (amount_back v h)
 reads_back (sets_mode n) h = ap sets_mode (alone_back n)
 reads_back (switches_cell true) h = refl
 reads_back (switches_cell false) h = refl

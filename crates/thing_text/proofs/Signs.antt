@@ -1,7 +1,8 @@
 -- A whole number's sign and size.
 use Prim.Native.Nat.{◌-◌, ◌^◌, ◌<◌}
-use mathlib.Core.Path.{◌≡◌, sym}
-use mathlib.Core.Bool.{true, false}
+use mathlib.Core.Path.{◌≡◌, refl, sym}
+use mathlib.Core.Bool.{true, false, true≢false}
+use mathlib.Core.List.{[], ◌∷◌}
 use native.Mathlib.Omega.{arith}
 use lib.IntN.{ℤ, pos, negsuc, nat_abs}
 use lib.Signed.{lt_z}
@@ -10,6 +11,15 @@ use mir.Val.{SFits}
 use borrow.Author.Tests.{ltb-true}
 use Rattle.value.specs.Arithmetic.{rest}
 use Rattle.value.proofs.Wrap.{unturned}
+use Rattle.thing_text.specs.Thing.{sign_text}
+
+pub signed : (z : ℤ) → lt_z z (pos 0) ≡ true → 45 ∷ [] ≡ sign_text z
+signed (pos n) e = let h : n < 0 = ltb-true n 0 e in absurd (omega arith)
+signed (negsuc n) e = refl
+
+pub unsigned : (z : ℤ) → lt_z z (pos 0) ≡ false → [] ≡ sign_text z
+unsigned (pos n) e = refl
+unsigned (negsuc n) e = absurd (true≢false e)
 
 pub size_below : (z : ℤ) → SFits w32 z → lt_z z (pos 0) ≡ true → 4294967296 - rest z 4294967296 ≡ nat_abs z
 unfolding rest

@@ -4,7 +4,8 @@ use Rattle.std.specs.Prelude.{List, [], ◌∷◌, take, drop}
 use Rattle.std.specs.Float.{binary64}
 use Rattle.std.specs.Float.Ieee.{fits, of_bits}
 use Rattle.state.specs.declared.LoopSort.TheVariants as LoopSort
-use Rattle.state.specs.State.{Out, nought, enters, leaves, packStart, packEnd, pack_part, says, waits, setsE, sets_mode}
+use Rattle.state.specs.State.{Out, nought, enters, leaves, pack_start}
+use Rattle.state.specs.State.{pack_end, pack_part, says, waits, sets_e, sets_mode}
 use Rattle.state.specs.State.{switches_cell}
 use Rattle.text.specs.Bytes.{ascii}
 use Rattle.text.specs.Decimal.{digit_run, number}
@@ -72,12 +73,12 @@ read_thing s =
     (behind (ascii "L") s (λ r. enters LoopSort.Loop)
     (behind (ascii "*") s (λ r. leaves LoopSort.Sweep)
     (behind (ascii "+") s (λ r. leaves LoopSort.Loop)
-    (behind (ascii "start") s (λ r. packStart)
+    (behind (ascii "start") s (λ r. pack_start)
     (behind (ascii "part:") s part_of
-    (behind (ascii "end") s (λ r. packEnd)
+    (behind (ascii "end") s (λ r. pack_end)
     (behind (ascii "text:") s range_of
     (behind (ascii "wait:") s (λ r. waits (read_amount r))
-    (behind (ascii "set_e:") s (λ r. setsE (read_amount r))
+    (behind (ascii "set_e:") s (λ r. sets_e (read_amount r))
     (behind (ascii "set_pgstat_mode:") s (λ r. sets_mode (number r))
     (behind (ascii "cell_on") s (λ r. switches_cell true)
     (behind (ascii "cell_off") s (λ r. switches_cell false) nought))))))))))))
@@ -93,12 +94,12 @@ abbrev pub Sound : Out → Type 0
 Sound nought = Unit {0}
 Sound (enters s) = Unit {0}
 Sound (leaves s) = Unit {0}
-Sound packStart = Unit {0}
-Sound packEnd = Unit {0}
+Sound pack_start = Unit {0}
+Sound pack_end = Unit {0}
 Sound (pack_part v t) = SoundValue v × (t < 65536)
 Sound (says t) = Unit {0}
 Sound (waits v) = SoundValue v
-Sound (setsE v) = SoundValue v
+Sound (sets_e v) = SoundValue v
 Sound (sets_mode n) = Unit {0}
 Sound (switches_cell b) = Unit {0}
 

@@ -6,8 +6,8 @@ use Rattle.std.specs.Prelude.{List, [], ◌++◌, length}
 use Rattle.std.specs.Float.{binary64}
 use Rattle.std.specs.Float.Ieee.{to_bits}
 use Rattle.state.specs.declared.LoopSort.{LoopSort}
-use Rattle.state.specs.State.{Out, nought, enters, leaves as leavesLoop, packStart, packEnd, pack_part, says, waits}
-use Rattle.state.specs.State.{setsE, sets_mode, switches_cell}
+use Rattle.state.specs.State.{Out, nought, enters, leaves as leaves_loop, pack_start, pack_end, pack_part, says, waits}
+use Rattle.state.specs.State.{sets_e, sets_mode, switches_cell}
 use Rattle.text.specs.Bytes.{ascii}
 use Rattle.text.specs.Decimal.{decimal}
 use Rattle.text.specs.Hex.{hex4}
@@ -58,13 +58,13 @@ cell_text false = ascii "cell_off"
 abbrev pub text_of : Out → List ℕ
 text_of nought = ascii "nothing"
 text_of (enters s) = enter_text s
-text_of (leavesLoop s) = leave_text s
-text_of packStart = ascii "start"
-text_of packEnd = ascii "end"
+text_of (leaves_loop s) = leave_text s
+text_of pack_start = ascii "start"
+text_of pack_end = ascii "end"
 text_of (pack_part v t) = ascii "part:" ++ hex4 t ++ ascii ":" ++ value_text v
 text_of (says t) = ascii "text:" ++ decimal t.start ++ ascii ":" ++ decimal t.end
 text_of (waits v) = ascii "wait:" ++ amount_text v
-text_of (setsE v) = ascii "set_e:" ++ amount_text v
+text_of (sets_e v) = ascii "set_e:" ++ amount_text v
 text_of (sets_mode n) = ascii "set_pgstat_mode:" ++ decimal n
 text_of (switches_cell b) = cell_text b
 
