@@ -1,5 +1,6 @@
 -- No second answer fits a public function's contract.
-use mathlib.Core.Path.{◌≡◌, sym, ◌∙◌}
+use Rattle.std.proofs.Common.{Option, Some, None}
+use mathlib.Core.Path.{◌≡◌, refl, sym, ◌∙◌, ap}
 use mathlib.Core.List.{List}
 use Prim.Native.Nat.{ℕ}
 use Rattle.value.specs.declared.Value.{Value}
@@ -14,9 +15,10 @@ use Rattle.argument.specs.Refusal.{number_of}
 use Rattle.argument.specs.Argument.{SaysAt}
 use Rattle.argument.specs.Holds.{name_of, operand_of, value_of, letters_of, small_of, comparison_of, text_of, wrong_of}
 use Rattle.argument.specs.Code.{numbered}
+use Rattle.argument.proofs.Refusals.{same_number}
 
-pub only_number : (refusal : Refusal) (r r' : ℕ) → r ≡ number_of refusal → r' ≡ number_of refusal → r ≡ r'
-only_number refusal r r' e e' = e ∙ sym e'
+pub only_u8_from_refusal : (refusal : Refusal) (r r' : ℕ) → r ≡ number_of refusal → r' ≡ number_of refusal → r ≡ r'
+only_u8_from_refusal refusal r r' e e' = e ∙ sym e'
 
 pub only_name_of : (x : Argument) (r r' : ℕ) → r ≡ name_of x → r' ≡ name_of x → r ≡ r'
 only_name_of x r r' e e' = e ∙ sym e'
@@ -39,9 +41,15 @@ only_comparison_of x r r' e e' = e ∙ sym e'
 pub only_text_of : (x : Argument) (r r' : Text) → r ≡ text_of x → r' ≡ text_of x → r ≡ r'
 only_text_of x r r' e e' = e ∙ sym e'
 
-pub only_wrong_of : (x : Argument) (r r' : ℕ)
-    → r ≡ numbered (wrong_of x) → r' ≡ numbered (wrong_of x) → r ≡ r'
-only_wrong_of x r r' e e' = e ∙ sym e'
+same_refusal : (r r' : Option Refusal) → numbered r ≡ numbered r' → r ≡ r'
+same_refusal None None e = refl
+same_refusal None (Some b) e = cc
+same_refusal (Some a) None e = cc
+same_refusal (Some a) (Some b) e = let q : number_of a ≡ number_of b = cc in ap Some (same_number a b q)
+
+pub only_wrong_of : (x : Argument) (r r' : Option Refusal)
+    → numbered r ≡ wrong_of x → numbered r' ≡ wrong_of x → r ≡ r'
+only_wrong_of x r r' e e' = same_refusal r r' (e ∙ sym e')
 
 pub only_say_at : (names : List (List ℕ)) (line : List ℕ) (form : Form) (i : ℕ) (r r' : Said)
     → SaysAt names line form i r → SaysAt names line form i r' → r ≡ r'

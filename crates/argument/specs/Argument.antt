@@ -1,15 +1,12 @@
 -- 01, "Script text": what an argument's word says where a form is asked, and what is wrong with it.
 -- v is a name, x a name or literal, f a float x (its kind is judged later), t a type, n digits 0 to 255.
+use Rattle.std.specs.Prelude.{Option, Some, None, Ok, Err}
 use Rattle.std.specs.Prelude.{◌≡◌, Bool, true, false, cond, List, [], ◌∷◌, ℕ, ◌+◌, ◌≤◌, ltb, eqb, length, drop, get_or}
 use Rattle.text.specs.Cut.{before}
 use Rattle.value.specs.declared.Comparison.{Comparison}
-use Rattle.value.specs.declared.Literal.{Literal}
-use Rattle.value.specs.Literal.{literal as read_literal}
+use Rattle.value.specs.Literal.{Literal, literal as read_literal}
 use Rattle.table.specs.declared.Operand.TheVariants as Operand
 use Rattle.word.specs.declared.Class.TheVariants as Class
-use Rattle.word.specs.declared.Found.{Found}
-use Rattle.word.specs.declared.TypeName.{TypeName}
-use Rattle.word.specs.declared.Small.{Small}
 use Rattle.text.specs.Bytes.{byte, ascii}
 use Rattle.word.specs.Word.{run, word_at, part, name_form, read_type, small_of as read_number, padded, seek}
 use Rattle.argument.specs.declared.Refusal.TheVariants as Refusal
@@ -24,50 +21,50 @@ pub use Rattle.argument.specs.declared.Said.{Said}
 unfoldable pub empty_said : List ℕ → Argument
 empty_said w = cond (eqb (length w) 0) Argument.Nothing (Argument.Wrong Refusal.BadArguments)
 
-abbrev pub known : Found → Argument
-known (Found.At i) = Argument.Name i
-known Found.Nothing = Argument.Wrong Refusal.Undeclared
+abbrev pub known : Option ℕ → Argument
+known (Some i) = Argument.Name i
+known None = Argument.Wrong Refusal.Undeclared
 
 -- a name that was declared on an earlier line
 unfoldable pub name_said : List (List ℕ) → List ℕ → Argument
 name_said names w = cond (name_form w) (known (seek names w)) (Argument.Wrong Refusal.BadArguments)
 
-abbrev pub fresh : ℕ → Found → Argument
-fresh n (Found.At i) = Argument.Wrong Refusal.DeclaredTwice
-fresh n Found.Nothing = cond (ltb n 32) (Argument.Name n) (Argument.Wrong Refusal.TooManyNames)
+abbrev pub fresh : ℕ → Option ℕ → Argument
+fresh n (Some i) = Argument.Wrong Refusal.DeclaredTwice
+fresh n None = cond (ltb n 32) (Argument.Name n) (Argument.Wrong Refusal.TooManyNames)
 
 -- a name that is new, with its number
 unfoldable pub new_said : List (List ℕ) → List ℕ → Argument
 new_said names w = cond (name_form w) (fresh (length names) (seek names w)) (Argument.Wrong Refusal.BadArguments)
 
 abbrev pub valued_by : Literal → Argument
-valued_by (Literal.Value v i) = Argument.Literal v
-valued_by (Literal.Bad i) = Argument.Wrong Refusal.BadArguments
+valued_by (Ok (v, i)) = Argument.Literal v
+valued_by (Err i) = Argument.Wrong Refusal.BadArguments
 
 unfoldable pub literal_said : List ℕ → Argument
 literal_said w = valued_by (read_literal w)
 
-abbrev pub known_operand : Found → Argument
-known_operand (Found.At i) = Argument.Operand (Operand.Name i)
-known_operand Found.Nothing = Argument.Wrong Refusal.Undeclared
+abbrev pub known_operand : Option ℕ → Argument
+known_operand (Some i) = Argument.Operand (Operand.Name i)
+known_operand None = Argument.Wrong Refusal.Undeclared
 
 abbrev pub literal_operand : Literal → Argument
-literal_operand (Literal.Value v i) = Argument.Operand (Operand.Literal v)
-literal_operand (Literal.Bad i) = Argument.Wrong Refusal.BadArguments
+literal_operand (Ok (v, i)) = Argument.Operand (Operand.Literal v)
+literal_operand (Err i) = Argument.Wrong Refusal.BadArguments
 
 unfoldable pub operand_said : List (List ℕ) → List ℕ → Argument
 operand_said names w = cond (name_form w) (known_operand (seek names w)) (literal_operand (read_literal w))
 
-abbrev pub lettered_by : TypeName → Argument
-lettered_by (TypeName.Letters t) = Argument.Letters t
-lettered_by TypeName.Bad = Argument.Wrong Refusal.BadArguments
+abbrev pub lettered_by : Option ℕ → Argument
+lettered_by (Some t) = Argument.Letters t
+lettered_by None = Argument.Wrong Refusal.BadArguments
 
 unfoldable pub type_said : List ℕ → Argument
 type_said w = lettered_by (read_type w)
 
-abbrev pub numbered_by : Small → Argument
-numbered_by (Small.Number n) = Argument.Number n
-numbered_by Small.Bad = Argument.Wrong Refusal.BadArguments
+abbrev pub numbered_by : Option ℕ → Argument
+numbered_by (Some n) = Argument.Number n
+numbered_by None = Argument.Wrong Refusal.BadArguments
 
 unfoldable pub number_said : List ℕ → Argument
 number_said w = numbered_by (read_number w)
@@ -85,9 +82,9 @@ comparisons =
 unfoldable pub comparison_at : ℕ → Comparison
 comparison_at i = get_or comparisons i Comparison.AtLeast
 
-abbrev pub compared_by : Found → Argument
-compared_by (Found.At i) = Argument.Comparison (comparison_at i)
-compared_by Found.Nothing = Argument.Wrong Refusal.BadArguments
+abbrev pub compared_by : Option ℕ → Argument
+compared_by (Some i) = Argument.Comparison (comparison_at i)
+compared_by None = Argument.Wrong Refusal.BadArguments
 
 unfoldable pub comparison_said : List ℕ → Argument
 comparison_said w = compared_by (seek signs w)

@@ -1,7 +1,7 @@
--- What only the code's shape needs: the number that it gives where nothing is wrong is above all numbers of form.
-use Rattle.std.proofs.Math.Option.{Option, none, some}
-use Rattle.std.specs.Prelude.{ℕ}
+-- What only the code's shape needs: the number of what is wrong, if something is.
+use Rattle.std.specs.Prelude.{ℕ, Option, Some, None}
+use Rattle.argument.specs.Refusal.{Refusal, number_of}
 
-abbrev pub numbered : Option ℕ → ℕ
-numbered none = 19
-numbered (some n) = n
+abbrev pub numbered : Option Refusal → Option ℕ
+numbered None = None
+numbered (Some r) = Some (number_of r)

@@ -1,7 +1,6 @@
 -- What an argument says, by its sort: an item is made of these. Where it says nothing of the sort they say nothing of
 -- meaning; an item is made only where every argument is of the sort that its place asks for.
-use Rattle.std.proofs.Math.Option.{Option, none, some}
-use Rattle.std.specs.Prelude.{ℕ, pos}
+use Rattle.std.specs.Prelude.{ℕ, pos, Option, Some, None}
 use Rattle.value.specs.declared.Value.{Value}
 use Rattle.value.specs.declared.Comparison.{Comparison}
 use Rattle.table.specs.declared.Operand.{Operand}
@@ -88,12 +87,12 @@ text_of (Argument.Wrong y) = record { start = 0; end = 0 }
 
 -- the number of what is wrong, if something is
 abbrev pub wrong_of : Argument → Option ℕ
-wrong_of Argument.Nothing = none
-wrong_of (Argument.Name y) = none
-wrong_of (Argument.Operand y) = none
-wrong_of (Argument.Literal y) = none
-wrong_of (Argument.Letters y) = none
-wrong_of (Argument.Number y) = none
-wrong_of (Argument.Comparison y) = none
-wrong_of (Argument.Text y) = none
-wrong_of (Argument.Wrong y) = some (number_of y)
+wrong_of Argument.Nothing = None
+wrong_of (Argument.Name y) = None
+wrong_of (Argument.Operand y) = None
+wrong_of (Argument.Literal y) = None
+wrong_of (Argument.Letters y) = None
+wrong_of (Argument.Number y) = None
+wrong_of (Argument.Comparison y) = None
+wrong_of (Argument.Text y) = None
+wrong_of (Argument.Wrong y) = Some (number_of y)

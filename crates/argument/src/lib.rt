@@ -11,8 +11,8 @@ ghost use Rattle.argument.specs.Argument.{number_said, comparison_at, comparison
 ghost use Rattle.argument.specs.Argument.{SaysAt};
 
 use table::{Operand, Text};
-use value::{Comparison, Literal, Value};
-use word::{Class, Found, Small, TypeName};
+use value::{Comparison, Value};
+use word::Class;
 
 // What is wrong with a script's text.
 #[derive(Clone, Copy)]
@@ -42,7 +42,8 @@ pub enum Form {
     Text,
 }
 
-// What an argument's word says.
+// What an argument's word says. What is wrong stands among the rest and is no Err: all the words of a line are read
+// before the lowest of their refusals is known, so nothing could hand the first one on by `?`.
 #[derive(Clone, Copy)]
 pub enum Argument {
     Nothing,
@@ -64,28 +65,29 @@ pub struct Said {
 }
 
 const MOST_NAMES: usize = 32;
-// Above every number of a refusal of form.
-const NO_NUMBER: u8 = 19;
 
 // 01's number of a refusal, 10 to 18.
-#[tactic(auto, unfolding(crate::specs::Refusal::number_of))]
-pub fn number(refusal: Refusal) -> u8
-    ensures { result ≡ number_of refusal }
-{
-    match refusal {
-        Refusal::TooLong => 10,
-        Refusal::NoEnd => 11,
-        Refusal::LongLine => 12,
-        Refusal::TooManyItems => 13,
-        Refusal::UnknownCommand => 14,
-        Refusal::BadArguments => 15,
-        Refusal::Undeclared => 16,
-        Refusal::DeclaredTwice => 17,
-        Refusal::TooManyNames => 18,
+impl From<Refusal> for u8 {
+    ghost from_gives = { λ why r. r ≡ number_of why };
+
+    #[tactic(auto, unfolding(crate::specs::Refusal::number_of))]
+    fn from(why: Refusal) -> u8 {
+        match why {
+            Refusal::TooLong => 10,
+            Refusal::NoEnd => 11,
+            Refusal::LongLine => 12,
+            Refusal::TooManyItems => 13,
+            Refusal::UnknownCommand => 14,
+            Refusal::BadArguments => 15,
+            Refusal::Undeclared => 16,
+            Refusal::DeclaredTwice => 17,
+            Refusal::TooManyNames => 18,
+        }
     }
 }
 
-// ---- what an argument says, where it says something of the sort, and otherwise nothing of meaning
+// ---- what an argument says, where it says something of the sort, and otherwise nothing of meaning: no Option, since
+// an item is made only where every argument is of the sort that its place asks for
 
 // A name's number; 0 for what is no name.
 pub fn name_of(x: Argument) -> usize
@@ -157,13 +159,13 @@ pub fn text_of(x: Argument) -> Text
     }
 }
 
-// The number of what is wrong with an argument, or NO_NUMBER.
-pub fn wrong_of(x: Argument) -> u8
-    ensures { result ≡ numbered (wrong_of x) }
+// What is wrong with an argument, if something is.
+pub fn wrong_of(x: Argument) -> Option<Refusal>
+    ensures { numbered result ≡ wrong_of x }
 {
     match x {
-        Argument::Wrong(refusal) => number(refusal),
-        _ => NO_NUMBER,
+        Argument::Wrong(why) => Some(why),
+        _ => None,
     }
 }
 
@@ -174,7 +176,7 @@ pub fn wrong_of(x: Argument) -> u8
 fn empty_said(word: &[u8]) -> Argument
     ensures { result ≡ empty_said word.now }
 {
-    if word.len() == 0 {
+    if word.is_empty() {
         return Argument::Nothing;
     }
     Argument::Wrong(Refusal::BadArguments)
@@ -189,8 +191,8 @@ fn name_said(word: &[u8], names: &[[u8; 16]]) -> Argument
         return Argument::Wrong(Refusal::BadArguments);
     }
     match word::seek_word(names, word) {
-        Found::At(i) => Argument::Name(i),
-        Found::Nothing => Argument::Wrong(Refusal::Undeclared),
+        Some(i) => Argument::Name(i),
+        None => Argument::Wrong(Refusal::Undeclared),
     }
 }
 
@@ -203,14 +205,9 @@ fn new_said(word: &[u8], names: &[[u8; 16]]) -> Argument
         return Argument::Wrong(Refusal::BadArguments);
     }
     match word::seek_word(names, word) {
-        Found::At(_) => Argument::Wrong(Refusal::DeclaredTwice),
-        Found::Nothing => {
-            if names.len() < MOST_NAMES {
-                Argument::Name(names.len())
-            } else {
-                Argument::Wrong(Refusal::TooManyNames)
-            }
-        }
+        Some(_) => Argument::Wrong(Refusal::DeclaredTwice),
+        None if names.len() < MOST_NAMES => Argument::Name(names.len()),
+        None => Argument::Wrong(Refusal::TooManyNames),
     }
 }
 
@@ -219,8 +216,8 @@ fn literal_said(word: &[u8]) -> Argument
     ensures { result ≡ literal_said word.now }
 {
     match value::read_literal(word) {
-        Literal::Value(v, _) => Argument::Literal(v),
-        Literal::Bad(_) => Argument::Wrong(Refusal::BadArguments),
+        Ok((v, _)) => Argument::Literal(v),
+        Err(_) => Argument::Wrong(Refusal::BadArguments),
     }
 }
 
@@ -231,13 +228,13 @@ fn operand_said(word: &[u8], names: &[[u8; 16]]) -> Argument
 {
     if word::is_name(word) {
         return match word::seek_word(names, word) {
-            Found::At(i) => Argument::Operand(Operand::Name(i)),
-            Found::Nothing => Argument::Wrong(Refusal::Undeclared),
+            Some(i) => Argument::Operand(Operand::Name(i)),
+            None => Argument::Wrong(Refusal::Undeclared),
         };
     }
     match value::read_literal(word) {
-        Literal::Value(v, _) => Argument::Operand(Operand::Literal(v)),
-        Literal::Bad(_) => Argument::Wrong(Refusal::BadArguments),
+        Ok((v, _)) => Argument::Operand(Operand::Literal(v)),
+        Err(_) => Argument::Wrong(Refusal::BadArguments),
     }
 }
 
@@ -246,8 +243,8 @@ fn type_said(word: &[u8]) -> Argument
     ensures { result ≡ type_said word.now }
 {
     match word::read_type(word) {
-        TypeName::Letters(t) => Argument::Letters(t),
-        TypeName::Bad => Argument::Wrong(Refusal::BadArguments),
+        Some(t) => Argument::Letters(t),
+        None => Argument::Wrong(Refusal::BadArguments),
     }
 }
 
@@ -256,8 +253,8 @@ fn number_said(word: &[u8]) -> Argument
     ensures { result ≡ number_said word.now }
 {
     match word::read_small(word) {
-        Small::Number(n) => Argument::Number(n),
-        Small::Bad => Argument::Wrong(Refusal::BadArguments),
+        Some(n) => Argument::Number(n),
+        None => Argument::Wrong(Refusal::BadArguments),
     }
 }
 
@@ -270,7 +267,8 @@ const SIGNS: [[u8; 16]; 6] = [
     *b">=              ",
 ];
 
-// The comparison that the sign of a row stands for.
+// The comparison that the sign of a row stands for. A word is looked for as a row, filled up with spaces, so the words
+// themselves can be no arms.
 #[tactic(auto, unfolding(crate::specs::Argument::comparison_at))]
 fn comparison_at(i: usize) -> Comparison
     ensures { result ≡ comparison_at i }
@@ -289,8 +287,8 @@ fn comparison_said(word: &[u8]) -> Argument
     ensures { result ≡ comparison_said word.now }
 {
     match word::seek_word(&SIGNS, word) {
-        Found::At(i) => Argument::Comparison(comparison_at(i)),
-        Found::Nothing => Argument::Wrong(Refusal::BadArguments),
+        Some(i) => Argument::Comparison(comparison_at(i)),
+        None => Argument::Wrong(Refusal::BadArguments),
     }
 }
 
@@ -315,10 +313,7 @@ fn say(form: Form, word: &[u8], names: &[[u8; 16]]) -> Argument
 fn is_text(form: Form) -> bool
     ensures { result ≡ is_text form }
 {
-    match form {
-        Form::Text => true,
-        _ => false,
-    }
+    matches!(form, Form::Text)
 }
 
 // The text of send_string from a place of its line.
@@ -328,26 +323,21 @@ fn text_at(line: &[u8], at: usize) -> Said
     ensures inside { result.stop ≤ length line.now }
 {
     let n = line.len();
+    let wrong = Said {
+        argument: Argument::Wrong(Refusal::BadArguments),
+        stop: n,
+    };
     let open = word::run_from(line, at, Class::Blank);
     if n <= open {
-        return Said {
-            argument: Argument::Wrong(Refusal::BadArguments),
-            stop: n,
-        };
+        return wrong;
     }
     if line[open] != b'"' {
-        return Said {
-            argument: Argument::Wrong(Refusal::BadArguments),
-            stop: n,
-        };
+        return wrong;
     }
     let start = open + 1;
     let end = text::next_byte(line, start, b'"');
     if n <= end {
-        return Said {
-            argument: Argument::Wrong(Refusal::BadArguments),
-            stop: n,
-        };
+        return wrong;
     }
     Said {
         argument: Argument::Text(Text { start, end }),

@@ -1,5 +1,5 @@
 -- 01, The checker, for C: a script's number and line, both 0 where it is accepted. Assumes nothing.
-use Rattle.vetting.specs.declared.Told.{Told}
+use Rattle.vetting.specs.Vet.{Told}
 pub use Rattle.capi.specs.declared.scripts.SatvVerdict.{SatvVerdict}
 
 unfoldable pub verdict_numbers : Told → SatvVerdict

@@ -5,7 +5,7 @@ ghost use Rattle.frame.specs.Frame.{read, write};
 ghost use Rattle.capi.specs.Frames.{good_frame, bad_frame, frame_numbers, wrote, frame_written};
 
 use super::GOOD;
-use frame::{HostNumber, InstrumentNumber, ReadFrame, Refusal, WrittenFrame};
+use frame::{HostNumber, InstrumentNumber, Refusal};
 
 #[repr(C)]
 #[derive(Clone, Copy)]
@@ -20,8 +20,8 @@ fn good(next: u8, length: usize) -> SatvFrame
 {
     SatvFrame {
         result: GOOD,
-        next: next,
-        length: length,
+        next,
+        length,
     }
 }
 
@@ -29,9 +29,8 @@ fn good(next: u8, length: usize) -> SatvFrame
 fn refused(why: Refusal, number: u8) -> SatvFrame
     ensures { result ≡ bad_frame (number_of why) number }
 {
-    let result = frame::number(why) as u16;
     SatvFrame {
-        result: result,
+        result: u8::from(why) as u16,
         next: number,
         length: 0,
     }
@@ -43,8 +42,8 @@ pub extern "C" fn satv_frame_read(line: &[u8], expected: u8) -> SatvFrame
     ensures { result ≡ frame_numbers expected (read line.now expected) }
 {
     match frame::read_frame(line, InstrumentNumber::from_byte(expected)) {
-        ReadFrame::Content(length, next) => good(next.byte(), length),
-        ReadFrame::Refused(why) => refused(why, expected),
+        Ok((length, next)) => good(next.byte(), length),
+        Err(why) => refused(why, expected),
     }
 }
 
@@ -56,7 +55,7 @@ pub extern "C" fn satv_frame_write(content: &[u8], number: u8, buffer: &mut [u8]
         ≡ frame_written number (write content.now number buffer.old) }
 {
     match frame::write_frame(content, HostNumber::from_byte(number), buffer) {
-        WrittenFrame::Written(length, next) => good(next.byte(), length),
-        WrittenFrame::Refused(why) => refused(why, number),
+        Ok((length, next)) => good(next.byte(), length),
+        Err(why) => refused(why, number),
     }
 }

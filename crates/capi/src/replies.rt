@@ -4,7 +4,8 @@ ghost use Rattle.reply.specs.Reply.{meaning, outcome_of};
 ghost use Rattle.capi.specs.Replies.{reply_numbers, RowsNumbered, no_row, row_fields, row_numbers};
 
 use super::GOOD;
-use reply::{Answer, Row};
+use reply::{Read, Row};
+use reply_line::Refusal;
 
 // The table of a caller who lends none.
 const MOST_ROWS: usize = 1024;
@@ -36,27 +37,24 @@ pub struct SatvRow {
     pub packages: usize,
 }
 
-fn told(answer: Answer) -> SatvReply
+fn told(answer: Result<Read, (Refusal, usize)>) -> SatvReply
     ensures { result ≡ reply_numbers (meaning answer) }
 {
     match answer {
-        Answer::Read { code, used, rows } => SatvReply {
+        Ok(read) => SatvReply {
             result: GOOD,
-            code: code,
+            code: read.code,
             line: 0,
-            used: used,
-            rows: rows,
+            used: read.used,
+            rows: read.rows,
         },
-        Answer::Refused(why, line) => {
-            let result = reply_line::number(why) as u16;
-            SatvReply {
-                result: result,
-                code: 0,
-                line: line,
-                used: 0,
-                rows: 0,
-            }
-        }
+        Err((why, line)) => SatvReply {
+            result: u8::from(why) as u16,
+            code: 0,
+            line,
+            used: 0,
+            rows: 0,
+        },
     }
 }
 
@@ -83,7 +81,7 @@ fn no_row(res: u16, line: usize) -> SatvRow
         result: res,
         kind: 0,
         mark: 0,
-        line: line,
+        line,
         parent: 0,
         packages: 0,
     }
@@ -92,11 +90,9 @@ fn no_row(res: u16, line: usize) -> SatvRow
 fn row_told(row: Row) -> SatvRow
     ensures { result ≡ row_fields row }
 {
-    let kind = row.kind;
-    let letter = reply_line::letter(kind);
     SatvRow {
         result: GOOD,
-        kind: letter,
+        kind: u8::from(row.kind),
         mark: row.mark,
         line: 0,
         parent: row.parent,
@@ -111,20 +107,13 @@ pub extern "C" fn satv_reply_row(reply: &[u8], row: usize) -> SatvRow
 {
     let mut numbers = [0u32; NUMBERS];
     match reply::numbers::read_numbers(reply, &mut numbers) {
-        Answer::Read {
-            code: _,
-            used: _,
-            rows,
-        } => {
-            if row < rows {
+        Ok(read) => {
+            if row < read.rows {
                 row_told(reply::numbers::row_in(&numbers, row))
             } else {
                 no_row(NO_SUCH_ROW, 0)
             }
         }
-        Answer::Refused(why, line) => {
-            let result = reply_line::number(why) as u16;
-            no_row(result, line)
-        }
+        Err((why, line)) => no_row(u8::from(why) as u16, line),
     }
 }

@@ -3,6 +3,8 @@ ghost use Rattle.std.specs.Prelude.{◌≡◌};
 ghost use Rattle.vetting.specs.Vet.{vetted};
 ghost use Rattle.capi.specs.Scripts.{verdict_numbers};
 
+use super::GOOD;
+
 #[repr(C)]
 #[derive(Clone, Copy)]
 pub struct SatvVerdict {
@@ -15,9 +17,14 @@ pub struct SatvVerdict {
 pub extern "C" fn satv_script_check(text: &[u8]) -> SatvVerdict
     ensures { result ≡ verdict_numbers (vetted text.now) }
 {
-    let told = vetting::vet(text);
-    SatvVerdict {
-        result: told.number as u16,
-        line: told.line,
+    match vetting::vet(text) {
+        Ok(()) => SatvVerdict {
+            result: GOOD,
+            line: 0,
+        },
+        Err((why, line)) => SatvVerdict {
+            result: u8::from(why) as u16,
+            line,
+        },
     }
 }

@@ -19,7 +19,7 @@ unfolding cases answer checked Check.verdict Shape.in_shape Crc.crc Crc.crc_from
     Literal.literal Literal.read_digits Literal.finish Literal.suffixed Literal.lettered Literal.over Literal.plain
     Ieee.div Ieee.of_int Ieee.round Ieee.units Ieee.odd Ieee.size Ieee.span Ieee.climb Bytes.lower Cut.cut
     Hex.digit_value Hex.hex_from Hex.read_hex Package.package_of Package.parts_from Package.part_of Package.end_in
-    Package.noise_in Package.range_in Package.status_in Package.past Package.metadatum_at Package.metadatum_of
+    Package.noise_in Package.range_in Package.status_in Package.past Package.metadatum_at
     Package.part_with Package.amount_in Package.is_nan Package.number_with Prefix.prefix_of Prefix.in_steps
     Package.scale_of Package.scaled Package.value_of Load.loaded Load.walk
 all_hold = refl

@@ -1,14 +1,13 @@
 -- 01, Cases by letter: A to L as one table of questions and answers.
+use Rattle.std.specs.Prelude.{None}
 use Rattle.std.specs.Prelude.{false, cond, List, [], ◌∷◌, ℕ, pos, negsuc, Float, eqb, length}
 use Prim.Native.String.{String}
 use Rattle.std.specs.Float.{fin}
 use Rattle.text.specs.Bytes.{ascii}
 use Rattle.crc.specs.Crc.{crc}
-use Rattle.value.specs.declared.Literal.{Literal}
 use Rattle.value.specs.declared.Value.TheVariants as Value
-use Rattle.value.specs.Literal.{literal}
+use Rattle.value.specs.Literal.{Literal, reads, literal}
 use Rattle.package.specs.declared.Amount.{Amount}
-use Rattle.package.specs.declared.Metadatum.TheVariants as Metadatum
 use Rattle.package.specs.Package.{Reading, parts, refused, package_of}
 use Rattle.loader.specs.Load.{Outcome, refusal, accepted, empty_table, loaded}
 use Rattle.rules.specs.Check as Rules
@@ -49,13 +48,12 @@ asks l q a = record { letter = l; question = q; expected = a }
 
 -- a literal that is a float, read up to a place
 abbrev pub float : Float → ℕ → Answer
-float x stop = value (Literal.Value (Value.Real x) stop)
+float x stop = value (reads (Value.Real x) stop)
 
 -- a package of one part without metadata
 abbrev pub one_part : ℕ → Amount → Answer
 one_part t a =
-    let none = Metadatum.Missing in
-    reading (parts (record { letters = t; amount = a; status = none; range = none; noise = none } ∷ []))
+    reading (parts (record { letters = t; amount = a; status = None; range = None; noise = None } ∷ []))
 
 unfoldable pub cases : List Case
 cases =

@@ -10,7 +10,7 @@ use Rattle.table.specs.declared.Table.{Table}
 use Rattle.table.specs.Shape.{items_of}
 use Rattle.state.specs.declared.Control.{Control}
 use Rattle.state.specs.declared.Offer.{Offer}
-use Rattle.state.specs.declared.Thing.{Thing}
+use Rattle.state.specs.declared.What.{What}
 use Rattle.state.specs.State as rules
 use Rattle.state.specs.State.{nought}
 use Rattle.state.specs.Meaning.{state_of, outs_of}
@@ -22,7 +22,7 @@ use Rattle.course.specs.Course.{all_stay, resting_all}
 
 -- ---- rows
 
-same_things : (ts us : List Thing) → outs_of ts ≡ outs_of us → ts ≡ us
+same_things : (ts us : List What) → outs_of ts ≡ outs_of us → ts ≡ us
 same_things ts us e = sym (things_back_lem ts) ∙ ap things_back e ∙ things_back_lem us
 
 -- two rows of n, the first few alike and what stands past them fixed
@@ -45,7 +45,7 @@ said_back_lem (s ∷ ss) = rw (answer_back_lem s.answer, said_back_lem ss)
 
 -- ---- the answer of a run
 
-ran_from : coded.State → List Said → ℕ → List Thing → ℕ → Ran
+ran_from : coded.State → List Said → ℕ → List What → ℕ → Ran
 ran_from m a n t h = record { state = m; answers = a; count = n; things = t; handed = h }
 
 ran_from_lem : (r : Ran) → ran_from r.state r.answers r.count r.things r.handed ≡ r

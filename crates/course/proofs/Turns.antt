@@ -22,8 +22,8 @@ use Rattle.effect.specs.declared.Spot.{Spot}
 use Rattle.state.specs.declared.Control.{Control}
 use Rattle.state.specs.declared.Offer.{Offer}
 use Rattle.state.specs.declared.Status.{Status}
-use Rattle.state.specs.declared.Thing.{Thing}
-use Rattle.state.specs.declared.Var.{Var}
+use Rattle.state.specs.declared.What.{What}
+use Rattle.state.specs.State.{Cell}
 use Rattle.state.specs.declared.Answer.{Answer}
 use Rattle.state.specs.declared.State as coded
 use Rattle.steps.specs.Machine.{state_ok, step}
@@ -130,7 +130,7 @@ joined_more ss os d s c e f =
 -- to m, and stayed says whether no step took an item
 pub record Come
     (size : ℕ) (t : Table) (b : Bool) (n : ℕ) (ts : List Told) (m₀ : coded.State) (i : ℕ) (ss : List Said)
-    (hs : List Thing) (h : ℕ)
+    (hs : List What) (h : ℕ)
     (m : State) (stayed : Bool) : Type 0 where
   pub within : i ≤ n
   pub few : n ≤ 64
@@ -166,7 +166,7 @@ come_start size t b n ts m₀ m h k e = rw e (record {
 })
 
 module _ {size : ℕ} {t : Table} {b : Bool} {n : ℕ} {ts : List Told} {m₀ : coded.State} {i : ℕ} {ss : List Said}
-    {hs : List Thing} {h : ℕ} {m : State} {stayed : Bool}
+    {hs : List What} {h : ℕ} {m : State} {stayed : Bool}
     (w : Come size t b n ts m₀ i ss hs h m stayed) where
   pub come_room : i < n → h ≤ 504
   come_room q = omega (arith, w.below, w.few)
@@ -189,7 +189,7 @@ module _ {size : ℕ} {t : Table} {b : Bool} {n : ℕ} {ts : List Told} {m₀ : 
     is_step : s ≡ step size t m at_i.control at_i.offer
     is_step = known_step size t m at_i.control at_i.offer b w.known
 
-    module _ (a : Answer) (c : ℕ) (hs' : List Thing) (h' : ℕ) (m' : State) (e : answer_of a ≡ s.answer)
+    module _ (a : Answer) (c : ℕ) (hs' : List What) (h' : ℕ) (m' : State) (e : answer_of a ≡ s.answer)
         (f : m' ≡ s.next)
         (new : Laid 512 hs' h' (take h (outs_of hs) ++ s.outs)) (most : h' ≤ h + 8) (counted : c ≡ length s.outs)
       where
@@ -256,7 +256,7 @@ module _ {size : ℕ} {t : Table} {b : Bool} {n : ℕ} {ts : List Told} {m₀ : 
           rests = rests_on;
         }
 
-  module _ (vars : List Var) (spot : Spot) (status : Status) (last : coded.State)
+  module _ (vars : List Cell) (spot : Spot) (status : Status) (last : coded.State)
       (here : m ≡ state_with (cells_of vars) spot status) (left : LeftAs stayed m₀ spot status vars last) where
     abbrev end : Ran
     end = record { state = last; answers = ss; count = n; things = hs; handed = h }
@@ -305,7 +305,7 @@ module _ {size : ℕ} {t : Table} {b : Bool} {n : ℕ} {ts : List Told} {m₀ : 
 
 -- i of n turns are made, for the steps ps that are told by ts
 pub record Rounds
-    (ps : List (Control × Offer)) (n : ℕ) (ts : List Told) (m₀ : coded.State) (i : ℕ) (ss : List Said) (hs : List Thing)
+    (ps : List (Control × Offer)) (n : ℕ) (ts : List Told) (m₀ : coded.State) (i : ℕ) (ss : List Said) (hs : List What)
     (h : ℕ) (stayed : Bool) (g : Stage) : Type 0 where
   pub come : Come g.size g.table g.shaped n ts m₀ i ss hs h (run_at g) stayed
   pub head : Turning g
@@ -313,17 +313,17 @@ pub record Rounds
   pub told : take n (all_told ts) ≡ ps
 
 -- the mates are tried by T in the next of them, behind the h things of hs
-pub record Within (T R : Type 0) (i n : ℕ) (hs : List Thing) (h : ℕ) : Type 0 where
+pub record Within (T R : Type 0) (i n : ℕ) (hs : List What) (h : ℕ) : Type 0 where
   pub trying : T
   pub round : R
   pub more : i < n
   pub few : n ≤ 64
   pub ready : Ready 512 hs h
 
-abbrev pub things_of : {T R : Type 0} {i n : ℕ} {hs : List Thing} {h : ℕ} → Within T R i n hs h → List Thing
+abbrev pub things_of : {T R : Type 0} {i n : ℕ} {hs : List What} {h : ℕ} → Within T R i n hs h → List What
 things_of {hs = hs} w = hs
 
-abbrev pub handed_of : {T R : Type 0} {i n : ℕ} {hs : List Thing} {h : ℕ} → Within T R i n hs h → ℕ
+abbrev pub handed_of : {T R : Type 0} {i n : ℕ} {hs : List What} {h : ℕ} → Within T R i n hs h → ℕ
 handed_of {h = h} w = h
 
 pub rounds_start : {g : Stage} {m₀ : coded.State} {a n : ℕ} (budget : ℕ) (steps : Steps) → Turning g
@@ -340,12 +340,12 @@ rounds_start {g} {m₀} {a} {n} budget steps w stands p q l = record {
 }
 
 module _ {ps : List (Control × Offer)} {n : ℕ} {ts : List Told} {m₀ : coded.State} {i : ℕ} {ss : List Said}
-    {hs : List Thing} {h : ℕ} {stayed : Bool} {g : Stage} (w : Rounds ps n ts m₀ i ss hs h stayed g) where
+    {hs : List What} {h : ℕ} {stayed : Bool} {g : Stage} (w : Rounds ps n ts m₀ i ss hs h stayed g) where
   pub rounds_ready : i < n → Ready 512 hs h
   rounds_ready q = record { laid = w.come.laid; room = omega (arith, come_room w.come q) }
 
   -- one turn of the loop
-  pub rounds_on : {e : Effect} {vars : List Var} {hs' : List Thing} {h' : ℕ} {b : Bool} → i < n
+  pub rounds_on : {e : Effect} {vars : List Cell} {hs' : List What} {h' : ℕ} {b : Bool} → i < n
       → Made (step_at g (get_or ts i no_told).control (get_or ts i no_told).offer) 512 hs h e vars hs' h'
       → length e.spot.boxes ≡ 8 → b ≡ stays (status_of g.status) (answer_of e.answer)
       → Rounds ps n ts m₀ (i + 1) (set ss i (record { answer = e.answer; things = h' - h })) hs' h' (stayed && b)

@@ -3,12 +3,11 @@
 
 ghost use Rattle.std.specs.Prelude.{◌≡◌};
 ghost use Rattle.crc.specs.Crc.{step, crc};
-ghost use Rattle.crc.specs.Code.{entries};
 
 const START: u16 = 0xFFFF;
 
 // What a byte on top of an empty register leaves there.
-const TABLE: [u16; 256] = [
+static TABLE: [u16; 256] = [
     0x0000, 0x1021, 0x2042, 0x3063, 0x4084, 0x50A5, 0x60C6, 0x70E7, 0x8108, 0x9129, 0xA14A, 0xB16B,
     0xC18C, 0xD1AD, 0xE1CE, 0xF1EF, 0x1231, 0x0210, 0x3273, 0x2252, 0x52B5, 0x4294, 0x72F7, 0x62D6,
     0x9339, 0x8318, 0xB37B, 0xA35A, 0xD3BD, 0xC39C, 0xF3FF, 0xE3DE, 0x2462, 0x3443, 0x0420, 0x1401,
@@ -33,25 +32,20 @@ const TABLE: [u16; 256] = [
     0x2E93, 0x3EB2, 0x0ED1, 0x1EF0,
 ];
 
-fn take_byte(table: &[u16; 256], r: u16, b: u8) -> u16
-    requires { table.now ≡ entries 0 256 }
+fn take_byte(r: u16, b: u8) -> u16
     ensures { result ≡ step r b }
 {
     let k = (b as u16) ^ (r >> 8);
-    (r << 8) ^ table[k as usize]
+    (r << 8) ^ TABLE[k as usize]
 }
 
 // The CRC-16 of all the bytes, for a slice of any length.
 pub fn crc16(s: &[u8]) -> u16
     ensures { result ≡ crc s.now }
 {
-    // Laid down once, not once a byte.
-    let table = TABLE;
     let mut r = START;
-    let mut i = 0;
-    while i < s.len() {
-        r = take_byte(&table, r, s[i]);
-        i += 1;
+    for b in s {
+        r = take_byte(r, *b);
     }
     r
 }

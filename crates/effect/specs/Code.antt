@@ -1,13 +1,13 @@
 -- What a step makes of a run, as the code makes it from what was looked up: definitions that compute, one for each
 -- function. That they are 01's step is shown in the crate `steps`, where text and names are.
+use Rattle.std.specs.Prelude.{Option, Some, None, Result, Ok, Err}
 use Rattle.std.specs.Prelude.{ℕ, ◌+◌, ◌-◌, Bool, true, false, not, ◌&&◌, ◌||◌, cond, eqb, ltb, leb, get_or, set}
 use Rattle.laws.specs.Least.{least}
 use Rattle.value.specs.Arithmetic.{finite, calculated, checked, compares}
 use Rattle.table.specs.ReadWrite.{breaks_order}
 use Rattle.state.specs.State as rules
 use Rattle.state.specs.State.{cell_value, cell_type, measures, reading, da, ba, eb}
-use Rattle.value.specs.declared.Calculated.{Calculated}
-use Rattle.value.specs.declared.Value.TheVariants as Value
+use Rattle.value.specs.declared.Value.{Value}
 use Rattle.table.specs.declared.Act.{Act}
 use Rattle.table.specs.declared.Branch.{Branch}
 use Rattle.table.specs.declared.Close.{Close}
@@ -17,7 +17,7 @@ use Rattle.table.specs.declared.Item.{Item}
 use Rattle.table.specs.declared.Pack.{Pack}
 use Rattle.table.specs.declared.Sweep.{Sweep}
 use Rattle.state.specs.declared.Answer.{Answer}
-use Rattle.state.specs.declared.Cell.{Cell}
+use Rattle.state.specs.State.{Cell}
 use Rattle.state.specs.declared.Control.{Control}
 use Rattle.state.specs.declared.Fault.{Fault}
 use Rattle.state.specs.declared.LoopSort.{LoopSort}
@@ -26,18 +26,16 @@ use Rattle.state.specs.declared.Order.TheVariants as Order
 use Rattle.state.specs.declared.Point.{Point}
 use Rattle.state.specs.declared.Refusal.TheVariants as Refusal
 use Rattle.state.specs.declared.Status.{Status}
-use Rattle.state.specs.declared.Stop.{Stop}
+use Rattle.value.specs.declared.Stop.{Stop}
 use Rattle.state.specs.declared.What.{What}
 use Rattle.effect.specs.declared.Around.{Around}
-use Rattle.operands.specs.declared.Cells.{Cells}
+use Rattle.operands.specs.Code.{Cells}
 use Rattle.effect.specs.declared.Chosen.{Chosen}
 use Rattle.effect.specs.declared.Effect.{Effect}
 use Rattle.effect.specs.declared.Looked.{Looked}
 use Rattle.effect.specs.declared.Need.{Need}
 use Rattle.effect.specs.declared.Spot.{Spot}
-use Rattle.effect.specs.declared.Tried.{Tried}
-use Rattle.effect.specs.declared.Trouble.{Trouble}
-use Rattle.operands.specs.declared.Written.{Written}
+use Rattle.operands.specs.Code.{Written}
 
 -- ---- src/spots.rt: the spot anew
 
@@ -122,8 +120,8 @@ still s t a =
       one = What.Nothing;
       two = What.Nothing;
       leaves = false;
-      first = Written.Nothing;
-      second = Written.Nothing;
+      first = None;
+      second = None;
     }
 
 abbrev pub leaving : Spot → Status → Answer → Effect
@@ -135,18 +133,18 @@ leaving s t a =
       one = What.Nothing;
       two = What.Nothing;
       leaves = true;
-      first = Written.Nothing;
-      second = Written.Nothing;
+      first = None;
+      second = None;
     }
 
 abbrev pub runs : Spot → Effect
 runs s = still s Status.Live Answer.Running
 
 abbrev pub saying : Spot → What → Effect
-saying s w = acting s w What.Nothing Written.Nothing Written.Nothing
+saying s w = acting s w What.Nothing None None
 
 abbrev pub writing : Spot → Written → Effect
-writing s w = acting s What.Nothing What.Nothing w Written.Nothing
+writing s w = acting s What.Nothing What.Nothing w None
 
 abbrev pub fault_by : Spot → Fault → Effect
 fault_by s f = still s (Status.Fault f) (Answer.Fault f)
@@ -197,18 +195,18 @@ need_of Item.Break = Need.Nothing
 need_of Item.Tag = Need.Nothing
 
 abbrev pub is_gone : Cell → Bool
-is_gone Cell.Unwritten = true
-is_gone (Cell.Holds v t) = false
+is_gone None = true
+is_gone (Some (v, t)) = false
 
 abbrev pub is_whole : Cell → Bool
-is_whole Cell.Unwritten = false
-is_whole (Cell.Holds (Value.Whole z) t) = true
-is_whole (Cell.Holds (Value.Real x) t) = false
+is_whole None = false
+is_whole (Some (Value.Whole z, t)) = true
+is_whole (Some (Value.Real x, t)) = false
 
 abbrev pub is_real : Cell → Bool
-is_real Cell.Unwritten = false
-is_real (Cell.Holds (Value.Whole z) t) = false
-is_real (Cell.Holds (Value.Real x) t) = true
+is_real None = false
+is_real (Some (Value.Whole z, t)) = false
+is_real (Some (Value.Real x, t)) = true
 
 abbrev pub cells_missing : Need → Cells → Bool
 cells_missing Need.Nothing k = false
@@ -244,22 +242,22 @@ deep_item s Item.Tag = false
 abbrev pub depth_fault' : Spot → Item → Bool
 depth_fault' s x = cond (ltb s.depth 8) false (deep_item s x)
 
-abbrev pub read_fault : Bool → Bool → Trouble
-read_fault b c = cond b (Trouble.Fault Fault.Unwritten) (cond c (Trouble.Fault Fault.Kind) Trouble.None)
+abbrev pub read_fault : Bool → Bool → Option Fault
+read_fault b c = cond b (Some Fault.Unwritten) (cond c (Some Fault.Kind) None)
 
-abbrev pub need_fault : Need → Cells → Trouble
+abbrev pub need_fault : Need → Cells → Option Fault
 need_fault n k = read_fault (cells_missing n k) (cells_wrong n k)
 
-abbrev pub mark_fault : Bool → Bool → Bool → Trouble
+abbrev pub mark_fault : Bool → Bool → Bool → Option Fault
 mark_fault b c d =
-    cond b (Trouble.Fault Fault.Box)
-    (cond c (Trouble.Fault Fault.Depth) (cond d (Trouble.Fault Fault.Package) Trouble.None))
+    cond b (Some Fault.Box)
+    (cond c (Some Fault.Depth) (cond d (Some Fault.Package) None))
 
-abbrev pub or_else : Trouble → Trouble → Trouble
-or_else Trouble.None t = t
-or_else (Trouble.Fault f) t = Trouble.Fault f
+abbrev pub or_else : Option Fault → Option Fault → Option Fault
+or_else None t = t
+or_else (Some f) t = Some f
 
-abbrev pub fault_of : Spot → Item → Cells → Bool → Trouble
+abbrev pub fault_of : Spot → Item → Cells → Bool → Option Fault
 fault_of s x k b =
     or_else (need_fault (need_of x) k)
     (mark_fault b (depth_fault' s x) (breaks_order x s.packed))
@@ -269,68 +267,67 @@ fault_of s x k b =
 abbrev pub holds : Condition → Cells → Bool
 holds c k = compares c.by (cell_value k.a) (cell_value k.b)
 
-abbrev pub try_holding : Bool → ℕ → Tried
-try_holding b i = cond b (Tried.Go (Chosen.Into (after i))) Tried.Next
+abbrev pub try_holding : Bool → ℕ → Option Chosen
+try_holding b i = cond b (Some (Chosen.Into (after i))) None
 
 -- an elseif, with the fault of what it reads
-abbrev pub try_unless : Trouble → Bool → ℕ → Tried
-try_unless Trouble.None b i = try_holding b i
-try_unless (Trouble.Fault f) b i = Tried.Go (Chosen.Bad f)
+abbrev pub try_unless : Option Fault → Bool → ℕ → Option Chosen
+try_unless None b i = try_holding b i
+try_unless (Some f) b i = Some (Chosen.Bad f)
 
-abbrev pub try_condition : Condition → Cells → ℕ → Tried
+abbrev pub try_condition : Condition → Cells → ℕ → Option Chosen
 try_condition c k i = try_unless (need_fault Need.Alike k) (holds c k) i
 
-abbrev pub try_branch : Branch → Cells → ℕ → Tried
+abbrev pub try_branch : Branch → Cells → ℕ → Option Chosen
 try_branch (Branch.ElseIf c) k i = try_condition c k i
-try_branch Branch.Else k i = Tried.Go (Chosen.Into (after i))
+try_branch Branch.Else k i = Some (Chosen.Into (after i))
 
-abbrev pub try_mate : Item → Cells → ℕ → Tried
-try_mate (Item.Act a) k i = Tried.Next
-try_mate (Item.Pack p) k i = Tried.Next
-try_mate (Item.Open h) k i = Tried.Next
+abbrev pub try_mate : Item → Cells → ℕ → Option Chosen
+try_mate (Item.Act a) k i = None
+try_mate (Item.Pack p) k i = None
+try_mate (Item.Open h) k i = None
 try_mate (Item.Branch b) k i = try_branch b k i
-try_mate (Item.Close e) k i = Tried.Go (Chosen.Beyond (after i))
-try_mate Item.Break k i = Tried.Next
-try_mate Item.Tag k i = Tried.Next
+try_mate (Item.Close e) k i = Some (Chosen.Beyond (after i))
+try_mate Item.Break k i = None
+try_mate Item.Tag k i = None
 
-abbrev pub try_head : Head → Cells → ℕ → Tried
+abbrev pub try_head : Head → Cells → ℕ → Option Chosen
 try_head (Head.If c) k i = try_holding (holds c k) i
-try_head (Head.Loop c) k i = Tried.Go (Chosen.Into 0)
-try_head (Head.Sweep w) k i = Tried.Go (Chosen.Into 0)
+try_head (Head.Loop c) k i = Some (Chosen.Into 0)
+try_head (Head.Sweep w) k i = Some (Chosen.Into 0)
 
-abbrev pub try_first : Item → Cells → ℕ → Tried
-try_first (Item.Act a) k i = Tried.Go (Chosen.Into 0)
-try_first (Item.Pack p) k i = Tried.Go (Chosen.Into 0)
+abbrev pub try_first : Item → Cells → ℕ → Option Chosen
+try_first (Item.Act a) k i = Some (Chosen.Into 0)
+try_first (Item.Pack p) k i = Some (Chosen.Into 0)
 try_first (Item.Open h) k i = try_head h k i
-try_first (Item.Branch b) k i = Tried.Go (Chosen.Into 0)
-try_first (Item.Close e) k i = Tried.Go (Chosen.Into 0)
-try_first Item.Break k i = Tried.Go (Chosen.Into 0)
-try_first Item.Tag k i = Tried.Go (Chosen.Into 0)
+try_first (Item.Branch b) k i = Some (Chosen.Into 0)
+try_first (Item.Close e) k i = Some (Chosen.Into 0)
+try_first Item.Break k i = Some (Chosen.Into 0)
+try_first Item.Tag k i = Some (Chosen.Into 0)
 
-abbrev pub tries_on : Tried → ℕ → ℕ → Bool
-tries_on (Tried.Go c) i n = false
-tries_on Tried.Next i n = ltb i n
+abbrev pub tries_on : Option Chosen → ℕ → ℕ → Bool
+tries_on (Some c) i n = false
+tries_on None i n = ltb i n
 
-abbrev pub chosen_by : Tried → Chosen
-chosen_by (Tried.Go c) = c
-chosen_by Tried.Next = Chosen.Bad Fault.Box
+abbrev pub chosen_by : Option Chosen → Chosen
+chosen_by (Some c) = c
+chosen_by None = Chosen.Bad Fault.Box
 
-abbrev pub chosen_fault : Chosen → Trouble
-chosen_fault (Chosen.Into i) = Trouble.None
-chosen_fault (Chosen.Beyond i) = Trouble.None
-chosen_fault (Chosen.Bad f) = Trouble.Fault f
+abbrev pub chosen_fault : Chosen → Option Fault
+chosen_fault (Chosen.Into i) = None
+chosen_fault (Chosen.Beyond i) = None
+chosen_fault (Chosen.Bad f) = Some f
 
 -- ---- src/acts.rt: acts and package marks
 
-abbrev pub keep_result : Spot → ℕ → ℕ → Calculated → Effect
-keep_result s n t (Calculated.Value v) = writing (go_on s) (Written.Put n (Cell.Holds v t))
-keep_result s n t Calculated.ByZero = stop_by s Stop.ByZero
-keep_result s n t Calculated.NotFinite = stop_by s Stop.NotFinite
+abbrev pub keep_result : Spot → ℕ → ℕ → Result Value Stop → Effect
+keep_result s n t (Ok v) = writing (go_on s) (Some (n, Some (v, t)))
+keep_result s n t (Err q) = stop_by s q
 
 abbrev pub run_act : Spot → Act → Cell → Cell → Offer → Effect
 run_act s (Act.Var v) x y o = runs (go_on s)
-run_act s (Act.Store n v t) x y o = writing (go_on s) (Written.Put n (Cell.Holds v t))
-run_act s (Act.Copy n m) x y o = writing (go_on s) (Written.Put m x)
+run_act s (Act.Store n v t) x y o = writing (go_on s) (Some (n, Some (v, t)))
+run_act s (Act.Copy n m) x y o = writing (go_on s) (Some (m, x))
 run_act s (Act.Calc f n z) x y o = keep_result s n (cell_type x) (calculated f (cell_value x) (cell_value y))
 run_act s (Act.Meas z n t) x y o = keep_result s n t (checked (reading o))
 run_act s (Act.TimerGet n) x y o = keep_result s n eb (checked (reading o))
@@ -358,16 +355,16 @@ enter_loop s k p q =
 abbrev pub leave_loop : Spot → LoopSort → ℕ → Effect
 leave_loop s k i =
     cond (is_inside s) (saying (leave_to s (below s.depth) i (measures k)) (What.Leave k))
-    (acting (leave_to s s.depth i (measures k)) (What.Enter k) (What.Leave k) Written.Nothing Written.Nothing)
+    (acting (leave_to s s.depth i (measures k)) (What.Enter k) (What.Leave k) None None)
 
 abbrev pub run_loop : Spot → Bool → ℕ → Effect
-run_loop s b i = cond b (enter_loop s LoopSort.Loop Written.Nothing Written.Nothing) (leave_loop s LoopSort.Loop i)
+run_loop s b i = cond b (enter_loop s LoopSort.Loop None None) (leave_loop s LoopSort.Loop i)
 
 abbrev pub run_point : Spot → Sweep → Point → Effect
 run_point s w p =
     cond (finite (Value.Real p.potential) && finite (Value.Real p.current))
-    (enter_loop s LoopSort.Sweep (Written.Put w.potential (Cell.Holds (Value.Real p.potential) da))
-    (Written.Put w.current (Cell.Holds (Value.Real p.current) ba)))
+    (enter_loop s LoopSort.Sweep (Some (w.potential, Some (Value.Real p.potential, da)))
+    (Some (w.current, Some (Value.Real p.current, ba))))
     (stop_by s Stop.NotFinite)
 
 abbrev pub run_sweep : Spot → Sweep → ℕ → Offer → Effect
@@ -422,11 +419,11 @@ served before s rules.ready e = e
 served before s rules.short e = still s Status.Live Answer.Waiting
 served before s rules.amiss e = still before Status.Live (Answer.Refused Refusal.Reading)
 
-abbrev pub unless : Trouble → Spot → Effect → Effect
-unless Trouble.None s e = e
-unless (Trouble.Fault f) s e = fault_by s f
+abbrev pub unless : Option Fault → Spot → Effect → Effect
+unless None s e = e
+unless (Some f) s e = fault_by s f
 
-abbrev pub trouble_of : Spot → Looked → Trouble
+abbrev pub trouble_of : Spot → Looked → Option Fault
 trouble_of s k = or_else (fault_of s k.item k.cells k.around.stray) (chosen_fault k.chosen)
 
 abbrev pub sound_item : Spot → Spot → Looked → Offer → Effect

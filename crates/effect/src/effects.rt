@@ -13,26 +13,21 @@ pub(crate) fn acting(s: Spot, one: What, two: What, first: Written, second: Writ
         spot: s,
         status: Status::Live,
         answer: Answer::Running,
-        one: one,
-        two: two,
+        one,
+        two,
         leaves: false,
-        first: first,
-        second: second,
+        first,
+        second,
     }
 }
 
-pub(crate) fn still(s: Spot, status: Status, a: Answer) -> Effect
-    ensures { result ≡ code.still s status a }
+pub(crate) fn still(s: Spot, status: Status, answer: Answer) -> Effect
+    ensures { result ≡ code.still s status answer }
 {
     Effect {
-        spot: s,
-        status: status,
-        answer: a,
-        one: What::Nothing,
-        two: What::Nothing,
-        leaves: false,
-        first: Written::Nothing,
-        second: Written::Nothing,
+        status,
+        answer,
+        ..acting(s, What::Nothing, What::Nothing, None, None)
     }
 }
 
@@ -41,14 +36,8 @@ pub(crate) fn leaving(s: Spot, status: Status, a: Answer) -> Effect
     ensures { result ≡ code.leaving s status a }
 {
     Effect {
-        spot: s,
-        status: status,
-        answer: a,
-        one: What::Nothing,
-        two: What::Nothing,
         leaves: true,
-        first: Written::Nothing,
-        second: Written::Nothing,
+        ..still(s, status, a)
     }
 }
 
@@ -61,13 +50,13 @@ pub(crate) fn running(s: Spot) -> Effect
 pub(crate) fn saying(s: Spot, w: What) -> Effect
     ensures { result ≡ code.saying s w }
 {
-    acting(s, w, What::Nothing, Written::Nothing, Written::Nothing)
+    acting(s, w, What::Nothing, None, None)
 }
 
 pub(crate) fn writing(s: Spot, w: Written) -> Effect
     ensures { result ≡ code.writing s w }
 {
-    acting(s, What::Nothing, What::Nothing, w, Written::Nothing)
+    acting(s, What::Nothing, What::Nothing, w, None)
 }
 
 pub(crate) fn fault_by(s: Spot, f: Fault) -> Effect

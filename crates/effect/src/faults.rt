@@ -2,9 +2,9 @@
 ghost use Rattle.std.specs.Prelude.{◌≡◌};
 ghost use Rattle.effect.specs.Code as code;
 
-use super::{BOXES, Need, Spot, Trouble, spots};
+use super::{Looked, Need, Spot};
 use operands::Cells;
-use state::{Cell, Fault};
+use state::{BOXES, Cell, Fault};
 use table::{Act, Head, Item, Pack};
 use value::Value;
 
@@ -12,20 +12,10 @@ fn act_need(a: Act) -> Need
     ensures { result ≡ code.act_need a }
 {
     match a {
-        Act::Var(_) => Need::Nothing,
-        Act::Store(_, _, _) => Need::Nothing,
         Act::Copy(_, _) => Need::Any,
         Act::Calc(_, _, _) => Need::Alike,
-        Act::Meas(_, _, _) => Need::Float,
-        Act::TimerGet(_) => Need::Nothing,
-        Act::SendString(_) => Need::Nothing,
-        Act::Wait(_) => Need::Float,
-        Act::SetE(_) => Need::Float,
-        Act::SetMode(_) => Need::Nothing,
-        Act::TimerStart => Need::Nothing,
-        Act::CellOn => Need::Nothing,
-        Act::CellOff => Need::Nothing,
-        Act::Abort => Need::Nothing,
+        Act::Meas(_, _, _) | Act::Wait(_) | Act::SetE(_) => Need::Float,
+        _ => Need::Nothing,
     }
 }
 
@@ -33,9 +23,8 @@ fn pack_need(p: Pack) -> Need
     ensures { result ≡ code.pack_need p }
 {
     match p {
-        Pack::Start => Need::Nothing,
         Pack::Add(_) => Need::Any,
-        Pack::End => Need::Nothing,
+        Pack::Start | Pack::End => Need::Nothing,
     }
 }
 
@@ -43,8 +32,7 @@ fn head_need(h: Head) -> Need
     ensures { result ≡ code.head_need h }
 {
     match h {
-        Head::If(_) => Need::Alike,
-        Head::Loop(_) => Need::Alike,
+        Head::If(_) | Head::Loop(_) => Need::Alike,
         Head::Sweep(_) => Need::Four,
     }
 }
@@ -57,83 +45,64 @@ fn need_of(x: Item) -> Need
         Item::Act(a) => act_need(a),
         Item::Pack(p) => pack_need(p),
         Item::Open(h) => head_need(h),
-        Item::Branch(_) => Need::Nothing,
-        Item::Close(_) => Need::Nothing,
-        Item::Break => Need::Nothing,
-        Item::Tag => Need::Nothing,
+        Item::Branch(_) | Item::Close(_) | Item::Break | Item::Tag => Need::Nothing,
     }
 }
 
 fn is_gone(c: Cell) -> bool
     ensures { result ≡ code.is_gone c }
 {
-    match c {
-        Cell::Unwritten => true,
-        Cell::Holds(_, _) => false,
-    }
+    c.is_none()
 }
 
 fn is_whole(c: Cell) -> bool
     ensures { result ≡ code.is_whole c }
 {
-    match c {
-        Cell::Unwritten => false,
-        Cell::Holds(v, _) => match v {
-            Value::Whole(_) => true,
-            Value::Real(_) => false,
-        },
-    }
+    matches!(c, Some((Value::Whole(_), _)))
 }
 
 fn is_real(c: Cell) -> bool
     ensures { result ≡ code.is_real c }
 {
-    match c {
-        Cell::Unwritten => false,
-        Cell::Holds(v, _) => match v {
-            Value::Whole(_) => false,
-            Value::Real(_) => true,
-        },
-    }
-}
-
-// 60
-fn cells_missing(need: Need, k: Cells) -> bool
-    ensures { result ≡ code.cells_missing need k }
-{
-    let a = k.a;
-    let b = k.b;
-    let c = k.c;
-    let d = k.d;
-    match need {
-        Need::Nothing => false,
-        Need::Any => is_gone(a),
-        Need::Alike => is_gone(a) | is_gone(b),
-        Need::Float => is_gone(a),
-        Need::Four => is_gone(d) | is_gone(c) | is_gone(b) | is_gone(a),
-    }
+    matches!(c, Some((Value::Real(_), _)))
 }
 
 fn kinds_differ(a: Cell, b: Cell) -> bool
     ensures { result ≡ code.kinds_differ a b }
 {
-    (is_whole(a) & is_real(b)) | (is_real(a) & is_whole(b))
+    (is_whole(a) && is_real(b)) || (is_real(a) && is_whole(b))
 }
 
-// 61
-fn cells_wrong(need: Need, k: Cells) -> bool
-    ensures { result ≡ code.cells_wrong need k }
-{
-    let a = k.a;
-    let b = k.b;
-    let c = k.c;
-    let d = k.d;
-    match need {
-        Need::Nothing => false,
-        Need::Any => false,
-        Need::Alike => kinds_differ(a, b),
-        Need::Float => is_whole(a),
-        Need::Four => is_whole(d) | is_whole(c) | is_whole(b) | is_whole(a),
+impl Need {
+    // 60
+    fn is_missing(self, k: Cells) -> bool
+        ensures { result ≡ code.cells_missing self k }
+    {
+        match self {
+            Need::Nothing => false,
+            Need::Any | Need::Float => is_gone(k.a),
+            Need::Alike => is_gone(k.a) || is_gone(k.b),
+            Need::Four => is_gone(k.d) || is_gone(k.c) || is_gone(k.b) || is_gone(k.a),
+        }
+    }
+
+    // 61
+    fn is_wrong(self, k: Cells) -> bool
+        ensures { result ≡ code.cells_wrong self k }
+    {
+        match self {
+            Need::Nothing | Need::Any => false,
+            Need::Alike => kinds_differ(k.a, k.b),
+            Need::Float => is_whole(k.a),
+            Need::Four => is_whole(k.d) || is_whole(k.c) || is_whole(k.b) || is_whole(k.a),
+        }
+    }
+
+    // The fault of what a step reads.
+    pub(crate) fn fault(self, k: Cells) -> Option<Fault>
+        ensures { result ≡ code.need_fault self k }
+    {
+        read_fault(self.is_missing(k), self.is_wrong(k))
     }
 }
 
@@ -143,8 +112,7 @@ fn ninth_box(s: Spot, h: Head) -> bool
 {
     match h {
         Head::If(_) => true,
-        Head::Loop(_) => !spots::is_inside(s),
-        Head::Sweep(_) => !spots::is_inside(s),
+        Head::Loop(_) | Head::Sweep(_) => !s.is_inside(),
     }
 }
 
@@ -155,64 +123,47 @@ fn depth_fault(s: Spot, x: Item) -> bool
         return false;
     }
     match x {
-        Item::Act(_) => false,
-        Item::Pack(_) => false,
         Item::Open(h) => ninth_box(s, h),
-        Item::Branch(_) => false,
-        Item::Close(_) => false,
-        Item::Break => false,
-        Item::Tag => false,
+        _ => false,
     }
 }
 
-fn read_fault(missing: bool, wrong: bool) -> Trouble
+fn read_fault(missing: bool, wrong: bool) -> Option<Fault>
     ensures { result ≡ code.read_fault missing wrong }
 {
     if missing {
-        return Trouble::Fault(Fault::Unwritten);
+        return Some(Fault::Unwritten);
     }
     if wrong {
-        return Trouble::Fault(Fault::Kind);
+        return Some(Fault::Kind);
     }
-    Trouble::None
+    None
 }
 
-// The fault of what a step reads.
-pub(crate) fn need_fault(need: Need, k: Cells) -> Trouble
-    ensures { result ≡ code.need_fault need k }
-{
-    read_fault(cells_missing(need, k), cells_wrong(need, k))
-}
-
-fn mark_fault(stray: bool, ninth: bool, order: bool) -> Trouble
+fn mark_fault(stray: bool, ninth: bool, order: bool) -> Option<Fault>
     ensures { result ≡ code.mark_fault stray ninth order }
 {
     if stray {
-        return Trouble::Fault(Fault::Box);
+        return Some(Fault::Box);
     }
     if ninth {
-        return Trouble::Fault(Fault::Depth);
+        return Some(Fault::Depth);
     }
     if order {
-        return Trouble::Fault(Fault::Package);
+        return Some(Fault::Package);
     }
-    Trouble::None
+    None
 }
 
-pub(crate) fn or_else(first: Trouble, second: Trouble) -> Trouble
-    ensures { result ≡ code.or_else first second }
+// The first fault of the item at which the run stands.
+pub(crate) fn fault_of(s: Spot, looked: Looked) -> Option<Fault>
+    ensures { result ≡ code.fault_of s looked.item looked.cells looked.around.stray }
 {
-    match first {
-        Trouble::None => second,
-        Trouble::Fault(f) => Trouble::Fault(f),
-    }
-}
-
-pub(crate) fn fault_of(s: Spot, x: Item, k: Cells, stray: bool) -> Trouble
-    ensures { result ≡ code.fault_of s x k stray }
-{
-    or_else(
-        need_fault(need_of(x), k),
-        mark_fault(stray, depth_fault(s, x), table::breaks_order(x, s.packed)),
-    )
+    let x = looked.item;
+    let mark = mark_fault(
+        looked.around.stray,
+        depth_fault(s, x),
+        table::breaks_order(x, s.packed),
+    );
+    need_of(x).fault(looked.cells).or(mark)
 }

@@ -19,9 +19,8 @@ pub use boxes::boxes_left;
 pub use step::effect_of;
 pub use tries::{chosen_by, tries_on, try_first, try_mate};
 
-const BOXES: usize = 8;
-
-// Where a run stands: all of it but its names and its status.
+// Where a run stands: all of it but its names and its status. There is no heap, so the open boxes are a row with a
+// count.
 #[derive(Clone, Copy)]
 pub struct Spot {
     pub at: usize,
@@ -33,7 +32,8 @@ pub struct Spot {
 }
 
 // What a step makes of a run: where it stands, its status; what it answers; what it hands out, at most two things, or
-// the marks of all open boxes as they are left; and the names that it writes, at most two.
+// the marks of all open boxes as they are left; and the names that it writes, at most two. The two things are laid out
+// whatever they are, so that no branch stands between them: nothing is a thing of its own.
 #[derive(Clone, Copy)]
 pub struct Effect {
     pub spot: Spot,
@@ -46,7 +46,8 @@ pub struct Effect {
     pub second: Written,
 }
 
-// Where an if leads: into a branch, past endif, or to a fault of the elseif tried.
+// Where an if leads: into a branch, past endif, or to a fault of the elseif tried. The step goes all three ways alike;
+// a result would hold an enum of the other two.
 #[derive(Clone, Copy)]
 pub enum Chosen {
     Into(usize),
@@ -54,15 +55,10 @@ pub enum Chosen {
     Bad(Fault),
 }
 
-#[derive(Clone, Copy)]
-pub enum Tried {
-    Go(Chosen),
-    Next,
-}
-
 // What the text's marks say of the open boxes, and of the box that the item is about: whether a measuring loop is open;
 // whether the item's mark is astray; past that box's closing mark; whether it is a measuring loop; how many boxes stay
-// open outside it.
+// open outside it. An item may be about no box, about a box, or astray with or without one, so that no option holds the
+// last three.
 #[derive(Clone, Copy)]
 pub struct Around {
     pub sweeping: bool,
@@ -80,12 +76,6 @@ pub struct Looked {
     pub tag: usize,
     pub count: usize,
     pub around: Around,
-}
-
-#[derive(Clone, Copy)]
-pub enum Trouble {
-    None,
-    Fault(Fault),
 }
 
 // What a step reads: nothing, one cell of any kind, two of one kind, one float, or four.

@@ -2,8 +2,8 @@
 ghost use Rattle.std.specs.Prelude.{◌≡◌};
 ghost use Rattle.effect.specs.Code as code;
 
-use super::{Around, Chosen, Effect, Spot, effects, spots, tries};
-use operands::{Cells, Written};
+use super::{Around, Chosen, Effect, Looked, Spot, effects, spots, tries};
+use operands::Written;
 use state::{Cell, LoopSort, Offer, Point, Stop, What};
 use table::{Close, Head, Sweep};
 use value::Value;
@@ -17,11 +17,11 @@ const TYPE_BA: u16 = 25185;
 fn enter_loop(s: Spot, sort: LoopSort, first: Written, second: Written) -> Effect
     ensures { result ≡ code.enter_loop s sort first second }
 {
-    if spots::is_inside(s) {
-        return effects::acting(spots::go_on(s), What::Nothing, What::Nothing, first, second);
+    if s.is_inside() {
+        return effects::acting(s.go_on(), What::Nothing, What::Nothing, first, second);
     }
     effects::acting(
-        spots::go_on(spots::push(s)),
+        s.push().go_on(),
         What::Enter(sort),
         What::Nothing,
         first,
@@ -34,19 +34,18 @@ fn leave_loop(s: Spot, sort: LoopSort, close: usize) -> Effect
     ensures { result ≡ code.leave_loop s sort close }
 {
     let sweep = state::measures(sort);
-    let d = s.depth;
-    if spots::is_inside(s) {
+    if s.is_inside() {
         return effects::saying(
-            spots::leave_to(s, spots::below(d), close, sweep),
+            s.leave_to(spots::below(s.depth), close, sweep),
             What::Leave(sort),
         );
     }
     effects::acting(
-        spots::leave_to(s, d, close, sweep),
+        s.leave_to(s.depth, close, sweep),
         What::Enter(sort),
         What::Leave(sort),
-        Written::Nothing,
-        Written::Nothing,
+        None,
+        None,
     )
 }
 
@@ -54,7 +53,7 @@ fn run_loop(s: Spot, holding: bool, close: usize) -> Effect
     ensures { result ≡ code.run_loop s holding close }
 {
     if holding {
-        return enter_loop(s, LoopSort::Loop, Written::Nothing, Written::Nothing);
+        return enter_loop(s, LoopSort::Loop, None, None);
     }
     leave_loop(s, LoopSort::Loop, close)
 }
@@ -64,12 +63,12 @@ fn run_point(s: Spot, w: Sweep, p: Point) -> Effect
 {
     let potential = Value::Real(p.potential);
     let current = Value::Real(p.current);
-    if value::is_finite(potential) & value::is_finite(current) {
+    if value::is_finite(potential) && value::is_finite(current) {
         return enter_loop(
             s,
             LoopSort::Sweep,
-            Written::Put(w.potential, Cell::Holds(potential, TYPE_DA)),
-            Written::Put(w.current, Cell::Holds(current, TYPE_BA)),
+            Some((w.potential, Some((potential, TYPE_DA)))),
+            Some((w.current, Some((current, TYPE_BA)))),
         );
     }
     effects::stop_by(s, Stop::NotFinite)
@@ -79,10 +78,8 @@ fn run_sweep(s: Spot, w: Sweep, close: usize, o: Offer) -> Effect
     ensures { result ≡ code.run_sweep s w close o }
 {
     match o {
-        Offer::Nothing => leave_loop(s, LoopSort::Sweep, close),
-        Offer::Float(_) => leave_loop(s, LoopSort::Sweep, close),
         Offer::Point(p) => run_point(s, w, p),
-        Offer::Done => leave_loop(s, LoopSort::Sweep, close),
+        Offer::Nothing | Offer::Float(_) | Offer::Done => leave_loop(s, LoopSort::Sweep, close),
     }
 }
 
@@ -90,19 +87,19 @@ fn run_chosen(s: Spot, c: Chosen) -> Effect
     ensures { result ≡ code.run_chosen s c }
 {
     match c {
-        Chosen::Into(i) => effects::running(spots::go_to(spots::push(s), i)),
-        Chosen::Beyond(i) => effects::running(spots::go_to(s, i)),
+        Chosen::Into(i) => effects::running(s.push().go_to(i)),
+        Chosen::Beyond(i) => effects::running(s.go_to(i)),
         Chosen::Bad(f) => effects::fault_by(s, f),
     }
 }
 
-pub(crate) fn run_head(s: Spot, h: Head, k: Cells, c: Chosen, close: usize, o: Offer) -> Effect
-    ensures { result ≡ code.run_head s h k c close o }
+pub(crate) fn run_head(s: Spot, h: Head, looked: Looked, o: Offer) -> Effect
+    ensures { result ≡ code.run_head s h looked.cells looked.chosen looked.around.close o }
 {
     match h {
-        Head::If(_) => run_chosen(s, c),
-        Head::Loop(q) => run_loop(s, tries::holds(q, k), close),
-        Head::Sweep(w) => run_sweep(s, w, close, o),
+        Head::If(_) => run_chosen(s, looked.chosen),
+        Head::Loop(q) => run_loop(s, tries::holds(q, looked.cells), looked.around.close),
+        Head::Sweep(w) => run_sweep(s, w, looked.around.close, o),
     }
 }
 
@@ -110,20 +107,20 @@ pub(crate) fn run_head(s: Spot, h: Head, k: Cells, c: Chosen, close: usize, o: O
 pub(crate) fn leave_if(s: Spot, to: usize) -> Effect
     ensures { result ≡ code.leave_if s to }
 {
-    effects::running(spots::leave_to(s, spots::below(s.depth), to, false))
+    effects::running(s.leave_to(spots::below(s.depth), to, false))
 }
 
 // An endloop leaves its measuring loop where an abort is pending or a skip is set.
 fn run_endloop(s: Spot, sweep: bool) -> Effect
     ensures { result ≡ code.run_endloop s sweep }
 {
-    if sweep & (s.pending | s.skip) {
+    if sweep && (s.pending || s.skip) {
         return effects::saying(
-            spots::leave_to(s, spots::below(s.depth), spots::after(s.at), true),
+            s.leave_to(spots::below(s.depth), spots::after(s.at), true),
             What::Leave(LoopSort::Sweep),
         );
     }
-    effects::running(spots::go_to(s, spots::top_of(s)))
+    effects::running(s.go_to(s.top()))
 }
 
 pub(crate) fn run_close(s: Spot, e: Close, sweep: bool) -> Effect
@@ -149,9 +146,8 @@ fn loop_sort(sweep: bool) -> LoopSort
 pub(crate) fn run_break(s: Spot, around: Around) -> Effect
     ensures { result ≡ code.run_break s around }
 {
-    let sweep = around.sweep;
     effects::saying(
-        spots::leave_to(s, around.outside, around.close, sweep),
-        What::Leave(loop_sort(sweep)),
+        s.leave_to(around.outside, around.close, around.sweep),
+        What::Leave(loop_sort(around.sweep)),
     )
 }

@@ -2,10 +2,9 @@
 ghost use Rattle.std.specs.Prelude.{◌≡◌};
 ghost use Rattle.effect.specs.Code as code;
 
-use super::{BOXES, Spot};
-use state::Control;
-
-const ITEMS: usize = 128;
+use super::Spot;
+use state::{BOXES, Control};
+use table::ITEMS;
 
 pub(crate) fn after(at: usize) -> usize
     ensures { result ≡ code.after at }
@@ -13,113 +12,106 @@ pub(crate) fn after(at: usize) -> usize
     if at < ITEMS { at + 1 } else { at }
 }
 
-pub(crate) fn go_to(s: Spot, to: usize) -> Spot
-    ensures { result ≡ code.go_to s to }
-{
-    let mut t = s;
-    t.at = to;
-    t
-}
-
-pub(crate) fn go_on(s: Spot) -> Spot
-    ensures { result ≡ code.go_on s }
-{
-    go_to(s, after(s.at))
-}
-
-pub(crate) fn with_pending(s: Spot) -> Spot
-    ensures { result ≡ code.with_pending s }
-{
-    let mut t = s;
-    t.pending = true;
-    t
-}
-
-pub(crate) fn with_packed(s: Spot, b: bool) -> Spot
-    ensures { result ≡ code.with_packed s b }
-{
-    let mut t = s;
-    t.packed = b;
-    t
-}
-
-fn with_skip(s: Spot, b: bool) -> Spot
-    ensures { result ≡ code.with_skip s b }
-{
-    let mut t = s;
-    t.skip = b;
-    t
-}
-
-// The control, where sweeping says whether a measuring loop is open.
-pub(crate) fn take_control(s: Spot, c: Control, sweeping: bool) -> Spot
-    ensures { result ≡ code.take_control s c sweeping }
-{
-    match c {
-        Control::None => s,
-        Control::Z => with_pending(s),
-        Control::Y => with_skip(s, s.skip | sweeping),
-    }
-}
-
-// The boxes inside the first d closed; at item i; the skip is dropped where a measuring loop is left.
-pub(crate) fn leave_to(s: Spot, d: usize, i: usize, sweep: bool) -> Spot
-    ensures { result ≡ code.leave_to s d i sweep }
-{
-    let mut t = s;
-    let skip = t.skip;
-    t.depth = d;
-    t.at = i;
-    t.skip = skip & !sweep;
-    t
-}
-
 pub(crate) fn below(d: usize) -> usize
     ensures { result ≡ code.below d }
 {
-    if d == 0 { 0 } else { d - 1 }
+    d.saturating_sub(1)
 }
 
-// The box of the item at which the run stands opened.
-pub(crate) fn push(s: Spot) -> Spot
-    ensures { result ≡ code.push s }
-{
-    let d = s.depth;
-    if d < BOXES {
-        let mut t = s;
-        t.boxes[d] = s.at;
-        t.depth = d + 1;
-        return t;
+impl Spot {
+    pub(crate) fn go_to(self, to: usize) -> Spot
+        ensures { result ≡ code.go_to self to }
+    {
+        Spot { at: to, ..self }
     }
-    s
-}
 
-// All boxes closed, at item i.
-pub(crate) fn clear(s: Spot, i: usize) -> Spot
-    ensures { result ≡ code.clear s i }
-{
-    let mut t = s;
-    t.at = i;
-    t.depth = 0;
-    t.pending = false;
-    t.skip = false;
-    t
-}
-
-// The innermost open box.
-pub(crate) fn top_of(s: Spot) -> usize
-    ensures { result ≡ code.top_of s }
-{
-    let d = below(s.depth);
-    if d < BOXES { s.boxes[d] } else { 0 }
-}
-
-// The box of the item at which the run stands is the innermost.
-pub(crate) fn is_inside(s: Spot) -> bool
-    ensures { result ≡ code.is_inside s }
-{
-    if s.depth == 0 {
-        return false;
+    pub(crate) fn go_on(self) -> Spot
+        ensures { result ≡ code.go_on self }
+    {
+        self.go_to(after(self.at))
     }
-    top_of(s) == s.at
+
+    pub(crate) fn with_pending(self) -> Spot
+        ensures { result ≡ code.with_pending self }
+    {
+        Spot {
+            pending: true,
+            ..self
+        }
+    }
+
+    pub(crate) fn with_packed(self, packed: bool) -> Spot
+        ensures { result ≡ code.with_packed self packed }
+    {
+        Spot { packed, ..self }
+    }
+
+    fn with_skip(self, skip: bool) -> Spot
+        ensures { result ≡ code.with_skip self skip }
+    {
+        Spot { skip, ..self }
+    }
+
+    // The control, where sweeping says whether a measuring loop is open.
+    pub(crate) fn take_control(self, c: Control, sweeping: bool) -> Spot
+        ensures { result ≡ code.take_control self c sweeping }
+    {
+        match c {
+            Control::None => self,
+            Control::Z => self.with_pending(),
+            Control::Y => self.with_skip(self.skip || sweeping),
+        }
+    }
+
+    // The boxes inside the first d closed; at item i; the skip is dropped where a measuring loop is left.
+    pub(crate) fn leave_to(self, d: usize, i: usize, sweep: bool) -> Spot
+        ensures { result ≡ code.leave_to self d i sweep }
+    {
+        Spot {
+            at: i,
+            depth: d,
+            skip: self.skip && !sweep,
+            ..self
+        }
+    }
+
+    // The box of the item at which the run stands opened.
+    pub(crate) fn push(self) -> Spot
+        ensures { result ≡ code.push self }
+    {
+        let mut t = self;
+        if self.depth < BOXES {
+            t.boxes[self.depth] = self.at;
+            t.depth += 1;
+        }
+        t
+    }
+
+    // All boxes closed, at item i.
+    pub(crate) fn clear(self, i: usize) -> Spot
+        ensures { result ≡ code.clear self i }
+    {
+        Spot {
+            at: i,
+            depth: 0,
+            pending: false,
+            skip: false,
+            ..self
+        }
+    }
+
+    // The innermost open box.
+    pub(crate) fn top(self) -> usize
+        ensures { result ≡ code.top_of self }
+    {
+        let d = below(self.depth);
+        if d < BOXES { self.boxes[d] } else { 0 }
+    }
+
+    // The box of the item at which the run stands is the innermost.
+    pub(crate) fn is_inside(self) -> bool
+        ensures { result ≡ code.is_inside self }
+    {
+        self.depth != 0 && self.top() == self.at
+    }
 }

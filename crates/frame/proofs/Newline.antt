@@ -1,43 +1,18 @@
 -- Laws of `contains`: by a loop, in joined lists, in digits. Assumes nothing.
-use Rattle.std.proofs.Common.{◌≡◌, ℕ, zero, suc, ◌+◌, ◌-◌, ◌/◌, ◌<◌, ◌≤◌, Bool, true, false, cond, ◌||◌, eqb, ltb}
-use Rattle.std.proofs.Common.{List, [], ◌∷◌, ◌++◌, length, get_or, drop, sym, refl, ap, ◌∙◌, ap₂, add-one, arith}
-use Rattle.std.proofs.Common.{drop_of_length-le, drop-cons, eq-eqb, ne_eqb}
-use mathlib.Core.Bool.{or-false}
+use Rattle.std.proofs.Common.{◌≡◌, ℕ, zero, suc, ◌+◌, ◌-◌, ◌/◌, Bool, true, false, cond, ◌||◌, eqb, ltb}
+use Rattle.std.proofs.Common.{List, [], ◌∷◌, ◌++◌, refl, ap, ◌∙◌, ap₂, arith}
+use Rattle.std.proofs.Common.{ne_eqb}
+use Rattle.std.specs.List.{list_any}
 use Rattle.frame.specs.Frame.{contains}
 use Rattle.text.specs.Bytes.{byte}
 use Rattle.text.specs.Hex.{digit_of, hex2, hex4, hex_of}
 
--- ---- by a loop
+-- ---- as the library tells it
 
--- whether one stands before the place i was found; with what is left it is the whole's
-pub record Seeking (s : List ℕ) (found : Bool) (i : ℕ) : Type 0 where
-  pub within : i ≤ length s
-  pub same : (found || contains (byte "\n") (drop i s)) ≡ contains (byte "\n") s
-
-module _ {s : List ℕ} {found : Bool} {i : ℕ} (k : Seeking s found i) where
-  pub again_found : i < length s → get_or s i 0 ≡ byte "\n" → Seeking s true (i + 1)
-  unfolding contains
-  again_found h e =
-      record { within = omega arith; same = sym (ap (λ (b : Bool). found || b) there ∙ or_true found) ∙ k.same }
-    where
-      there : contains (byte "\n") (drop i s) ≡ true
-      there = rw (drop-cons s i 0 h) (rw (eq-eqb (get_or s i 0) (byte "\n") e) refl)
-
-      or_true : (b : Bool) → (b || true) ≡ true
-      or_true true = refl
-      or_true false = refl
-
-  pub again_other : i < length s → (get_or s i 0 ≡ byte "\n" → ⊥) → Seeking s found (i + 1)
-  unfolding contains
-  again_other h n = record { within = omega arith; same = ap (λ (b : Bool). found || b) (sym passed) ∙ k.same }
-    where
-      passed : contains (byte "\n") (drop i s) ≡ contains (byte "\n") (drop (i + 1) s)
-      passed = rw (add-one, drop-cons s i 0 h) (rw (ne_eqb (get_or s i 0) (byte "\n") n) refl)
-
-  pub end : length s ≤ i → found ≡ contains (byte "\n") s
-  unfolding contains
-  end h =
-      sym (ap (λ (l : List ℕ). found || contains (byte "\n") l) (drop_of_length-le s h) ∙ or-false found) ∙ k.same
+pub is_any : (c : ℕ) (s : List ℕ) → list_any (λ x. eqb x c) s ≡ contains c s
+unfolding contains
+is_any c [] = refl
+is_any c (x ∷ s) = ap (λ (b : Bool). eqb x c || b) (is_any c s)
 
 -- ---- in joined lists, and in digits
 

@@ -1,4 +1,5 @@
 -- What the writer writes reads back. Assumes nothing.
+use Rattle.std.proofs.Common.{Some}
 use Rattle.std.proofs.Common.{◌≡◌, ℕ, ◌+◌, ◌-◌, ◌^◌, ◌<◌, ◌≤◌, Bool, true, false, cond, ◌||◌, ltb, List, [], ◌∷◌}
 use Rattle.std.proofs.Common.{◌++◌, length, take, drop, sym, refl, ap, ◌∙◌, ap₂, append_assoc, arith, length-append}
 use Rattle.std.proofs.Common.{take_at, drop_at, ltb-false, le-ltb, eq-eqb}
@@ -8,7 +9,6 @@ use Rattle.frame.proofs.Newline.{in_hex2, in_hex4, neither}
 use Rattle.frame.specs.Frame.{accepted, contains, framed, leaves, next, numbered, refused, unfit, write}
 use Rattle.frame.specs.Frame.{read, read_content, right_crc, right_number}
 use Rattle.text.proofs.Digits.{reads_part, hex2_back, hex4_back}
-use Rattle.text.specs.declared.Hex.TheVariants as Hex
 use Rattle.text.specs.Hex.{hex_from, read_hex, hex2, hex4}
 use Rattle.text.specs.Put.{put}
 
@@ -61,12 +61,12 @@ module _ (s : List ℕ) (n : ℕ) (h : n < 256) (short : length s ≤ 127) (clea
   unfolding k crc
   k_fits = crc_from-lt 0xFFFF (s ++ hex2 n) (omega arith)
 
-  crc_read : read_hex 4 (sealed s n) (length s + 2) ≡ Hex.Number k
+  crc_read : read_hex 4 (sealed s n) (length s + 2) ≡ Some k
   crc_read =
       reads_part (sealed s n) (length s + 2) 4 (omega arith) (omega (arith, whole_length))
       ∙ ap (hex_from 0) its_crc ∙ hex4_back k k_fits
 
-  number_read : read_hex 2 (sealed s n) (length s) ≡ Hex.Number n
+  number_read : read_hex 2 (sealed s n) (length s) ≡ Some n
   number_read =
       reads_part (sealed s n) (length s) 2 (omega arith) (omega (arith, whole_length))
       ∙ ap (hex_from 0) its_number ∙ hex2_back n h

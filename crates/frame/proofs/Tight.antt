@@ -1,12 +1,11 @@
 -- No second answer fits: for each public function, two answers (and two buffers) that both keep its contract are
 -- equal. Assumes nothing.
+use Rattle.std.proofs.Common.{Result, Ok, Err}
 use Rattle.std.proofs.Common.{◌≡◌, ℕ, cond, eqb, List, take, sym, refl, ap, ◌∙◌}
 use Rattle.frame.specs.Answer.{meaning_read, meaning_written, number_of}
 use Rattle.frame.specs.declared.HostNumber.{HostNumber}
 use Rattle.frame.specs.declared.InstrumentNumber.{InstrumentNumber}
-use Rattle.frame.specs.declared.ReadFrame.{ReadFrame}
 use Rattle.frame.specs.declared.Refusal.{Refusal}
-use Rattle.frame.specs.declared.WrittenFrame.{WrittenFrame}
 use Rattle.frame.specs.Frame.{Answer, refused, accepted, leaves, read, write}
 
 -- ---- a number tells the refusal, and what an answer says tells the answer
@@ -25,23 +24,23 @@ named_back Refusal.WrongCrc = refl
 named_back Refusal.WrongNumber = refl
 named_back Refusal.ShortBuffer = refl
 
-read_of : Answer → ReadFrame
-read_of (accepted k n) = ReadFrame.Content k (record { 0 = n })
-read_of (refused n place) = ReadFrame.Refused (named n)
+read_of : Answer → Result (ℕ × InstrumentNumber) Refusal
+read_of (accepted k n) = Ok (k, (record { 0 = n }))
+read_of (refused n place) = Err (named n)
 
-read_back : (x : ReadFrame) → read_of (meaning_read x) ≡ x
+read_back : (x : Result (ℕ × InstrumentNumber) Refusal) → read_of (meaning_read x) ≡ x
 unfolding read_of meaning_read
-read_back (ReadFrame.Content k n) = refl
-read_back (ReadFrame.Refused r) = ap ReadFrame.Refused (named_back r)
+read_back (Ok (k, n)) = refl
+read_back (Err r) = ap Err (named_back r)
 
-written_of : Answer → WrittenFrame
-written_of (accepted k n) = WrittenFrame.Written k (record { 0 = n })
-written_of (refused n place) = WrittenFrame.Refused (named n)
+written_of : Answer → Result (ℕ × HostNumber) Refusal
+written_of (accepted k n) = Ok (k, (record { 0 = n }))
+written_of (refused n place) = Err (named n)
 
-written_back : (x : WrittenFrame) → written_of (meaning_written x) ≡ x
+written_back : (x : Result (ℕ × HostNumber) Refusal) → written_of (meaning_written x) ≡ x
 unfolding written_of meaning_written
-written_back (WrittenFrame.Written k n) = refl
-written_back (WrittenFrame.Refused r) = ap WrittenFrame.Refused (named_back r)
+written_back (Ok (k, n)) = refl
+written_back (Err r) = ap Err (named_back r)
 
 -- ---- the two counters: a number is its byte
 
@@ -65,17 +64,18 @@ only_instrument_number_byte number x y h k = h ∙ sym k
 
 -- ---- the other public functions
 
-pub only_number : (r : Refusal) (x y : ℕ) → x ≡ number_of r → y ≡ number_of r → x ≡ y
-only_number r x y h k = h ∙ sym k
+pub only_u8_from_refusal : (r : Refusal) (x y : ℕ) → x ≡ number_of r → y ≡ number_of r → x ≡ y
+only_u8_from_refusal r x y h k = h ∙ sym k
 
-pub only_read_frame : (line : List ℕ) (expected : InstrumentNumber) (x y : ReadFrame)
+pub only_read_frame : (line : List ℕ) (expected : InstrumentNumber) (x y : Result (ℕ × InstrumentNumber) Refusal)
     → meaning_read x ≡ read line expected.0 → meaning_read y ≡ read line expected.0 → x ≡ y
 only_read_frame line expected x y h k = sym (read_back x) ∙ ap read_of (h ∙ sym k) ∙ read_back y
 
 pub only_content : (line : List ℕ) (length : ℕ) (x y : List ℕ) → x ≡ take length line → y ≡ take length line → x ≡ y
 only_content line length x y h k = h ∙ sym k
 
-pub only_write_frame : (content : List ℕ) (number : HostNumber) (buf : List ℕ) (x y : WrittenFrame) (out out' : List ℕ)
+pub only_write_frame : (content : List ℕ) (number : HostNumber) (buf : List ℕ)
+    → (x y : Result (ℕ × HostNumber) Refusal) (out out' : List ℕ)
     → leaves (meaning_written x) out ≡ write content number.0 buf
     → leaves (meaning_written y) out' ≡ write content number.0 buf
     → (x ≡ y) × (out ≡ out')

@@ -1,8 +1,8 @@
 -- 01, Frames: a framed line, the reader and the writer. Assumes nothing.
+use Rattle.std.specs.Prelude.{Option, Some, None}
 use Rattle.std.specs.Prelude.{ℕ, ◌+◌, ◌-◌, ◌%◌, Bool, false, cond, not, ◌&&◌, ◌||◌, List, [], ◌∷◌, ◌++◌, length, take}
 use Rattle.std.specs.Prelude.{◌==◌, nat_lt}
 use Rattle.crc.specs.Crc.{crc}
-use Rattle.text.specs.declared.Hex.{Hex}
 use Rattle.text.specs.Hex.{read_hex, hex2, hex4}
 use Rattle.text.specs.Put.{put}
 
@@ -31,9 +31,9 @@ framed content n = numbered content n ++ hex4 (crc (numbered content n)) ++ 10 �
 -- ---- "The reader takes one line without its newline and the expected number, and tests 2, 1, 3, 4"
 
 -- digits that are upper hex and say a number
-abbrev pub says : Hex → ℕ → Bool
-says (Hex.Number v) n = v == n
-says Hex.Bad n = false
+abbrev pub says : Option ℕ → ℕ → Bool
+says (Some v) n = v == n
+says None n = false
 
 -- k bytes of content are followed by two digits and four: "A newline inside is 3, a CRC digit not upper hex 3"
 unfoldable pub right_crc : List ℕ → ℕ → Bool
@@ -52,6 +52,7 @@ read_content line k expected =
     (accepted k (next expected))))
 
 unfoldable pub read : List ℕ → ℕ → Answer
+unfolding read_content
 read line expected = cond (nat_lt (length line) 6) (refused 2 0) (read_content line (length line - 6) expected)
 
 -- ---- "The writer tests 1, then 5, and writes no byte after the newline"

@@ -6,8 +6,6 @@ ghost use Rattle.text.specs.Put.{put};
 ghost use Rattle.frame.specs.Answer.{number_of, meaning_read, meaning_written};
 ghost use Rattle.frame.specs.Frame.{next, contains, framed, right_crc, right_number, unfit, read, write, leaves};
 
-use text::Hex;
-
 const MOST_CONTENT: usize = 127;
 
 const NUMBER_DIGITS: usize = 2;
@@ -25,7 +23,7 @@ const FIRST: u8 = 0;
 
 // The number of a line that the host sends. It counts by itself: no number that was received becomes one. Its field is
 // private, so outside this crate a number is a first one, one that the writer handed back, or one made of a byte by
-// name.
+// name. That there are two tuple structs alike, and no type for both, is the form that 01 names.
 #[derive(Clone, Copy)]
 pub struct HostNumber(u8);
 
@@ -40,18 +38,6 @@ pub enum Refusal {
     WrongCrc,
     WrongNumber,
     ShortBuffer,
-}
-
-#[derive(Clone, Copy)]
-pub enum ReadFrame {
-    Content(usize, InstrumentNumber),
-    Refused(Refusal),
-}
-
-#[derive(Clone, Copy)]
-pub enum WrittenFrame {
-    Written(usize, HostNumber),
-    Refused(Refusal),
 }
 
 impl HostNumber {
@@ -73,7 +59,7 @@ impl HostNumber {
     pub fn byte(self) -> u8
         ensures { result ≡ self.0 }
     {
-        let sent = self.0;
+        let HostNumber(sent) = self;
         sent
     }
 
@@ -81,7 +67,7 @@ impl HostNumber {
     fn next(self) -> HostNumber
         ensures { result.0 ≡ next self.0 }
     {
-        HostNumber(std::num::wrapping_add_u8(self.0, 1))
+        HostNumber(self.0.wrapping_add(1))
     }
 }
 
@@ -104,7 +90,7 @@ impl InstrumentNumber {
     pub fn byte(self) -> u8
         ensures { result ≡ self.0 }
     {
-        let received = self.0;
+        let InstrumentNumber(received) = self;
         received
     }
 
@@ -112,38 +98,30 @@ impl InstrumentNumber {
     fn next(self) -> InstrumentNumber
         ensures { result.0 ≡ next self.0 }
     {
-        InstrumentNumber(std::num::wrapping_add_u8(self.0, 1))
+        InstrumentNumber(self.0.wrapping_add(1))
     }
 }
 
 // The number that the paper gives a refusal.
-#[tactic(auto, unfolding(crate::specs::Answer::number_of))]
-pub fn number(refusal: Refusal) -> u8
-    ensures { result ≡ number_of refusal }
-{
-    match refusal {
-        Refusal::BadContent => 1,
-        Refusal::ShortLine => 2,
-        Refusal::WrongCrc => 3,
-        Refusal::WrongNumber => 4,
-        Refusal::ShortBuffer => 5,
+impl From<Refusal> for u8 {
+    ghost from_gives = { λ why r. r ≡ number_of why };
+
+    #[tactic(auto, unfolding(crate::specs::Answer::number_of))]
+    fn from(why: Refusal) -> u8 {
+        match why {
+            Refusal::BadContent => 1,
+            Refusal::ShortLine => 2,
+            Refusal::WrongCrc => 3,
+            Refusal::WrongNumber => 4,
+            Refusal::ShortBuffer => 5,
+        }
     }
 }
 
-#[tactic(auto, using(crate::proofs::Newline::again_found, crate::proofs::Newline::again_other))]
 fn has_newline(s: &[u8]) -> bool
     ensures { result ≡ contains 10 s.now }
 {
-    // No way out before the end: the compiler then takes many bytes at once.
-    let mut found = false;
-    let mut i = 0;
-    while i < s.len() {
-        if s[i] == NEWLINE {
-            found = true;
-        }
-        i += 1;
-    }
-    found
+    s.contains(&NEWLINE)
 }
 
 #[tactic(auto, unfolding(crate::specs::Frame::right_crc))]
@@ -151,67 +129,56 @@ fn right_crc(line: &[u8], k: usize) -> bool
     requires { k + 6 ≤ length line.now }
     ensures { result ≡ right_crc line.now k }
 {
-    if has_newline(line) {
-        return false;
-    }
     let m = k + NUMBER_DIGITS;
-    let Hex::Number(v) = text::hex_at(line, m, CRC_DIGITS) else {
-        return false;
-    };
-    let crc = crc::crc16(&line[..m]);
-    v == crc as u32
+    !has_newline(line) && text::hex_at(line, m, CRC_DIGITS) == Some(crc::crc16(&line[..m]) as u32)
 }
 
 #[tactic(auto, unfolding(crate::specs::Frame::right_number))]
 fn right_number(line: &[u8], k: usize, expected: u8) -> bool
     ensures { result ≡ right_number line.now k expected }
 {
-    let Hex::Number(v) = text::hex_at(line, k, NUMBER_DIGITS) else {
-        return false;
-    };
-    v == expected as u32
+    text::hex_at(line, k, NUMBER_DIGITS) == Some(expected as u32)
 }
 
 // Reads a line that came without its newline.
-pub fn read_frame(line: &[u8], expected: InstrumentNumber) -> ReadFrame
+#[tactic(auto, unfolding(crate::specs::Frame::read, crate::specs::Answer::meaning_read))]
+pub fn read_frame(
+    line: &[u8],
+    expected: InstrumentNumber,
+) -> Result<(usize, InstrumentNumber), Refusal>
     ensures { meaning_read result ≡ read line.now expected.0 }
 {
     if line.len() < DIGITS {
-        return ReadFrame::Refused(Refusal::ShortLine);
+        return Err(Refusal::ShortLine);
     }
     let k = line.len() - DIGITS;
     if MOST_CONTENT < k {
-        return ReadFrame::Refused(Refusal::BadContent);
+        return Err(Refusal::BadContent);
     }
     if !right_crc(line, k) {
-        return ReadFrame::Refused(Refusal::WrongCrc);
+        return Err(Refusal::WrongCrc);
     }
     if !right_number(line, k, expected.0) {
-        return ReadFrame::Refused(Refusal::WrongNumber);
+        return Err(Refusal::WrongNumber);
     }
-    ReadFrame::Content(k, expected.next())
+    Ok((k, expected.next()))
 }
 
 // The content of a line, of the length that was read: the caller's own bytes.
 pub fn content(line: &[u8], length: usize) -> &[u8]
     ensures { result.now ≡ take length line.now }
 {
-    if length < line.len() {
-        return &line[..length];
-    }
-    line
+    line.get(..length).unwrap_or(line)
 }
 
 #[tactic(auto, unfolding(crate::specs::Frame::unfit))]
 fn unfit(content: &[u8]) -> bool
     ensures { result ≡ unfit content.now }
 {
-    if MOST_CONTENT < content.len() {
-        return true;
-    }
-    has_newline(content)
+    MOST_CONTENT < content.len() || has_newline(content)
 }
 
+#[tactic(auto, using(crate::proofs::Writing::whole))]
 fn put_frame(buf: &mut [u8], content: &[u8], number: u8)
     requires { length content.now + 7 ≤ length buf.old }
     ensures { buf.new ≡ put buf.old 0 (framed content.now number) }
@@ -226,17 +193,22 @@ fn put_frame(buf: &mut [u8], content: &[u8], number: u8)
 }
 
 // Writes a framed line with its newline at the start of a buffer, or leaves the buffer alone.
-pub fn write_frame(content: &[u8], number: HostNumber, buf: &mut [u8]) -> WrittenFrame
+#[tactic(auto, unfolding(crate::specs::Frame::write, crate::specs::Answer::meaning_written))]
+pub fn write_frame(
+    content: &[u8],
+    number: HostNumber,
+    buf: &mut [u8],
+) -> Result<(usize, HostNumber), Refusal>
     ensures { leaves (meaning_written result) buf.new
         ≡ write content.now number.0 buf.old }
 {
     if unfit(content) {
-        return WrittenFrame::Refused(Refusal::BadContent);
+        return Err(Refusal::BadContent);
     }
     let n = content.len() + DIGITS_AND_NEWLINE;
     if buf.len() < n {
-        return WrittenFrame::Refused(Refusal::ShortBuffer);
+        return Err(Refusal::ShortBuffer);
     }
     put_frame(buf, content, number.0);
-    WrittenFrame::Written(n, number.next())
+    Ok((n, number.next()))
 }

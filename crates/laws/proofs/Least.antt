@@ -1,5 +1,5 @@
 -- The lesser of two numbers. Assumes nothing.
-use Prim.Native.Nat.{ℕ, ◌≤◌, ◌<◌}
+use Prim.Native.Nat.{ℕ, ◌≤◌, ◌<◌, min}
 use mathlib.Core.Bool.{Bool, true, false, cond}
 use mathlib.Core.List.{List}
 use mathlib.Core.Path.{◌≡◌, refl, sym}
@@ -9,6 +9,14 @@ use lib.ListN.{take, length-take}
 use lib.Seq.{take_all, take-take}
 use borrow.Author.Tests.{leb-true, leb-false}
 use Rattle.laws.specs.Least.{least}
+
+-- the library's
+pub least_min : (n k : ℕ) → min n k ≡ least n k
+least_min n k = go (leb n k) refl
+  where
+    go : (b : Bool) → leb n k ≡ b → min n k ≡ cond b n k
+    go true e = omega (arith, leb-true n k e)
+    go false e = omega (arith, leb-false n k e)
 
 pub least_most : (n k : ℕ) → least n k ≤ k
 least_most n k = go (leb n k) refl

@@ -1,11 +1,11 @@
 -- What only the code's shape needs: words looked for by their letter, and a line that is over before its arguments are.
-use Rattle.std.specs.Prelude.{ltb, eqb, get_or, Bool, ◌&&◌, cond, List, ℕ}
-use Rattle.word.specs.declared.Found.{Found}
+use Rattle.std.specs.Prelude.{Option, Some, None}
+use Rattle.std.specs.Prelude.{ltb, eqb, get_or, length, Bool, ◌&&◌, cond, List, ℕ}
 
--- the row of a word that was found at a place among those of five rows
-abbrev pub row_of : List ℕ → Found → Found
-row_of rows Found.Nothing = Found.Nothing
-row_of rows (Found.At i) = cond (ltb i 5) (Found.At (get_or rows i 0)) Found.Nothing
+-- the row of a word that was found at a place, in a list of their rows
+abbrev pub row_of : List ℕ → Option ℕ → Option ℕ
+row_of rows None = None
+row_of rows (Some i) = cond (ltb i (length rows)) (Some (get_or rows i 0)) None
 
 -- a letter asks for nothing, and the line of n bytes is at its end
 abbrev pub over : ℕ → ℕ → ℕ → Bool

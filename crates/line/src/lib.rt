@@ -4,7 +4,7 @@
 ghost use Rattle.std.specs.Prelude.{◌≡◌, length};
 ghost use Rattle.word.specs.Word.{seek};
 ghost use Rattle.argument.specs.Argument.{said_at};
-ghost use Rattle.argument.specs.Holds.{wrong_of};
+ghost use Rattle.argument.specs.Code.{numbered};
 ghost use Rattle.line.specs.Code.{row_of, over, all_over};
 ghost use Rattle.line.specs.Command.{condition_of, sweep_of, act_of, pack_of, head_of, branch_of, item_of};
 ghost use Rattle.line.specs.Command.{command_words, command_at, form_of};
@@ -13,13 +13,6 @@ ghost use Rattle.line.specs.Line.{arguments_at, lower, lowest, meaning, judged};
 use argument::{Argument, Form, Refusal, Said};
 use table::{Act, Branch, Close, Condition, Head, Item, Pack, Sweep};
 use value::Operation;
-use word::Found;
-
-#[derive(Clone, Copy)]
-pub enum Judged {
-    Item(Item),
-    Refused(Refusal),
-}
 
 // What a command makes of its arguments.
 #[derive(Clone, Copy)]
@@ -71,10 +64,8 @@ pub enum Make {
     Tag,
 }
 
-// The most commands that begin with one letter.
-const MOST_ALIKE: usize = 5;
-
-// The arguments of a command, and what stands after them.
+// The arguments of a command, and what stands after them. Names and no array: most lines are over after the third, and
+// the others are then not looked for.
 #[derive(Clone, Copy)]
 pub struct Arguments {
     pub a: Argument,
@@ -126,7 +117,8 @@ fn make_at(k: usize) -> Make
 }
 
 // As 01 writes them: v a name, x a name or literal (also where 01 writes f), t a type, n a number; w a new name, l a
-// literal, o a comparison, s a text. A match and no table, which would be laid down anew for each line.
+// literal, o a comparison, s a text. A match and no table, which would be laid down anew for each line. Letters and no
+// forms: so a row reads as it does in 01, and as the definition has it.
 #[tactic(auto, unfolding(crate::specs::Command::command_at, crate::specs::Command::commands))]
 fn shape_at(k: usize) -> [u8; 6]
     ensures { result ≡ (command_at k).shape }
@@ -135,63 +127,41 @@ fn shape_at(k: usize) -> [u8; 6]
         0 => *b"w     ",
         1 => *b"vlt   ",
         2 => *b"vv    ",
-        3 => *b"vx    ",
-        4 => *b"vx    ",
-        5 => *b"vx    ",
-        6 => *b"vx    ",
-        7 => *b"xox   ",
-        8 => *b"xox   ",
-        9 => *b"xox   ",
+        3 | 4 | 5 | 6 => *b"vx    ",
+        7 | 8 | 9 => *b"xox   ",
         10 => *b"vvxxxx",
         11 => *b"xvt   ",
-        12 => *b"v     ",
-        13 => *b"v     ",
+        12 | 13 => *b"v     ",
         14 => *b"s     ",
-        15 => *b"x     ",
-        16 => *b"x     ",
+        15 | 16 => *b"x     ",
         17 => *b"n     ",
         _ => *b"      ",
     }
 }
 
-// The row of a word, found at a place among those of some rows.
-fn row_of(found: Found, rows: [usize; 5]) -> Found
-    ensures { result ≡ row_of rows found }
+// The row of a word that is among these, each with its row.
+fn among(word: &[u8], words: &[[u8; 16]], rows: &[usize]) -> Option<usize>
+    ensures { result ≡ row_of rows.now (seek words.now word.now) }
 {
-    match found {
-        Found::At(i) => {
-            if i < MOST_ALIKE {
-                Found::At(rows[i])
-            } else {
-                Found::Nothing
-            }
-        }
-        Found::Nothing => Found::Nothing,
-    }
-}
-
-fn among(word: &[u8], words: &[[u8; 16]], rows: [usize; 5]) -> Found
-    ensures { result ≡ row_of rows (seek words.now word.now) }
-{
-    let found = word::seek_word(words, word);
-    row_of(found, rows)
+    let i = word::seek_word(words, word)?;
+    rows.get(i).copied()
 }
 
 // The row of a command's word, which is looked for among the words that begin with its letter. They stand in the arms:
 // constants would all be laid down, whatever the letter.
-fn find_command(word: &[u8]) -> Found
+fn find_command(word: &[u8]) -> Option<usize>
     ensures { result ≡ seek command_words word.now }
 {
     if word.len() == 0 {
-        return Found::Nothing;
+        return None;
     }
     match word[0] {
         b'a' => among(
             word,
             &[*b"add_var         ", *b"abort           "],
-            [3, 27, 0, 0, 0],
+            &[3, 27],
         ),
-        b'b' => among(word, &[*b"breakloop       "], [21, 0, 0, 0, 0]),
+        b'b' => among(word, &[*b"breakloop       "], &[21]),
         b'c' => among(
             word,
             &[
@@ -199,9 +169,9 @@ fn find_command(word: &[u8]) -> Found
                 *b"cell_on         ",
                 *b"cell_off        ",
             ],
-            [2, 25, 26, 0, 0],
+            &[2, 25, 26],
         ),
-        b'd' => among(word, &[*b"div_var         "], [6, 0, 0, 0, 0]),
+        b'd' => among(word, &[*b"div_var         "], &[6]),
         b'e' => among(
             word,
             &[
@@ -210,10 +180,10 @@ fn find_command(word: &[u8]) -> Found
                 *b"endif           ",
                 *b"endloop         ",
             ],
-            [8, 18, 19, 20, 0],
+            &[8, 18, 19, 20],
         ),
-        b'i' => among(word, &[*b"if              "], [7, 0, 0, 0, 0]),
-        b'l' => among(word, &[*b"loop            "], [9, 0, 0, 0, 0]),
+        b'i' => among(word, &[*b"if              "], &[7]),
+        b'l' => among(word, &[*b"loop            "], &[9]),
         b'm' => among(
             word,
             &[
@@ -221,9 +191,9 @@ fn find_command(word: &[u8]) -> Found
                 *b"meas_loop_lsv   ",
                 *b"meas            ",
             ],
-            [5, 10, 11, 0, 0],
+            &[5, 10, 11],
         ),
-        b'o' => among(word, &[*b"on_finished:    "], [28, 0, 0, 0, 0]),
+        b'o' => among(word, &[*b"on_finished:    "], &[28]),
         b'p' => among(
             word,
             &[
@@ -231,7 +201,7 @@ fn find_command(word: &[u8]) -> Found
                 *b"pck_start       ",
                 *b"pck_end         ",
             ],
-            [13, 23, 24, 0, 0],
+            &[13, 23, 24],
         ),
         b's' => among(
             word,
@@ -242,16 +212,16 @@ fn find_command(word: &[u8]) -> Found
                 *b"set_e           ",
                 *b"set_pgstat_mode ",
             ],
-            [1, 4, 14, 16, 17],
+            &[1, 4, 14, 16, 17],
         ),
         b't' => among(
             word,
             &[*b"timer_get       ", *b"timer_start     "],
-            [12, 22, 0, 0, 0],
+            &[12, 22],
         ),
-        b'v' => among(word, &[*b"var             "], [0, 0, 0, 0, 0]),
-        b'w' => among(word, &[*b"wait            "], [15, 0, 0, 0, 0]),
-        _ => Found::Nothing,
+        b'v' => among(word, &[*b"var             "], &[0]),
+        b'w' => among(word, &[*b"wait            "], &[15]),
+        _ => None,
     }
 }
 
@@ -276,7 +246,7 @@ fn form_of(letter: u8) -> Form
 fn is_over(letter: u8, line: &[u8], at: usize) -> bool
     ensures { result ≡ over letter (length line.now) at }
 {
-    (letter == b' ') & (at == line.len())
+    letter == b' ' && at == line.len()
 }
 
 // The argument that a letter asks for at a place.
@@ -307,14 +277,11 @@ fn say_all(shape: [u8; 6], line: &[u8], at: usize, names: &[[u8; 16]]) -> Argume
     let a = say_next(shape[0], line, at, names);
     let b = say_next(shape[1], line, a.stop, names);
     let c = say_next(shape[2], line, b.stop, names);
-    let xa = a.argument;
-    let xb = b.argument;
-    let xc = c.argument;
     if is_all_over(shape, line, c.stop) {
         return Arguments {
-            a: xa,
-            b: xb,
-            c: xc,
+            a: a.argument,
+            b: b.argument,
+            c: c.argument,
             d: Argument::Nothing,
             e: Argument::Nothing,
             f: Argument::Nothing,
@@ -325,18 +292,14 @@ fn say_all(shape: [u8; 6], line: &[u8], at: usize, names: &[[u8; 16]]) -> Argume
     let e = argument::say_at(form_of(shape[4]), line, d.stop, names);
     let f = argument::say_at(form_of(shape[5]), line, e.stop, names);
     let g = argument::say_at(Form::Nothing, line, f.stop, names);
-    let xd = d.argument;
-    let xe = e.argument;
-    let xf = f.argument;
-    let xg = g.argument;
     Arguments {
-        a: xa,
-        b: xb,
-        c: xc,
-        d: xd,
-        e: xe,
-        f: xf,
-        end: xg,
+        a: a.argument,
+        b: b.argument,
+        c: c.argument,
+        d: d.argument,
+        e: e.argument,
+        f: f.argument,
+        end: g.argument,
     }
 }
 
@@ -345,34 +308,23 @@ fn say_all(shape: [u8; 6], line: &[u8], at: usize, names: &[[u8; 16]]) -> Argume
 fn condition_of(a: Argument, b: Argument, c: Argument) -> Condition
     ensures { result ≡ condition_of a b c }
 {
-    let left = argument::operand_of(a);
-    let by = argument::comparison_of(b);
-    let right = argument::operand_of(c);
-    Condition { left, by, right }
+    Condition {
+        left: argument::operand_of(a),
+        by: argument::comparison_of(b),
+        right: argument::operand_of(c),
+    }
 }
 
 fn sweep_of(x: Arguments) -> Sweep
     ensures { result ≡ sweep_of x }
 {
-    let a = x.a;
-    let b = x.b;
-    let c = x.c;
-    let d = x.d;
-    let e = x.e;
-    let f = x.f;
-    let potential = argument::name_of(a);
-    let current = argument::name_of(b);
-    let begin = argument::operand_of(c);
-    let end = argument::operand_of(d);
-    let step = argument::operand_of(e);
-    let rate = argument::operand_of(f);
     Sweep {
-        potential,
-        current,
-        begin,
-        end,
-        step,
-        rate,
+        potential: argument::name_of(x.a),
+        current: argument::name_of(x.b),
+        begin: argument::operand_of(x.c),
+        end: argument::operand_of(x.d),
+        step: argument::operand_of(x.e),
+        rate: argument::operand_of(x.f),
     }
 }
 
@@ -418,12 +370,9 @@ fn pack_of(make: MakePack, a: Argument) -> Pack
 fn head_of(make: MakeHead, x: Arguments) -> Head
     ensures { result ≡ head_of make x }
 {
-    let a = x.a;
-    let b = x.b;
-    let c = x.c;
     match make {
-        MakeHead::If => Head::If(condition_of(a, b, c)),
-        MakeHead::Loop => Head::Loop(condition_of(a, b, c)),
+        MakeHead::If => Head::If(condition_of(x.a, x.b, x.c)),
+        MakeHead::Loop => Head::Loop(condition_of(x.a, x.b, x.c)),
         MakeHead::Sweep => Head::Sweep(sweep_of(x)),
     }
 }
@@ -440,14 +389,11 @@ fn branch_of(make: MakeBranch, a: Argument, b: Argument, c: Argument) -> Branch
 fn item_of(make: Make, x: Arguments) -> Item
     ensures { result ≡ item_of make x }
 {
-    let a = x.a;
-    let b = x.b;
-    let c = x.c;
     match make {
-        Make::Act(m) => Item::Act(act_of(m, a, b, c)),
-        Make::Pack(m) => Item::Pack(pack_of(m, a)),
+        Make::Act(m) => Item::Act(act_of(m, x.a, x.b, x.c)),
+        Make::Pack(m) => Item::Pack(pack_of(m, x.a)),
         Make::Open(m) => Item::Open(head_of(m, x)),
-        Make::Branch(m) => Item::Branch(branch_of(m, a, b, c)),
+        Make::Branch(m) => Item::Branch(branch_of(m, x.a, x.b, x.c)),
         Make::Close(m) => Item::Close(m),
         Make::Break => Item::Break,
         Make::Tag => Item::Tag,
@@ -456,50 +402,46 @@ fn item_of(make: Make, x: Arguments) -> Item
 
 // ---- the line
 
-fn worse_of(a: Argument, b: Argument) -> Argument
-    ensures { wrong_of result ≡ lower (wrong_of a) (wrong_of b) }
+// Of what is wrong, if something is, that with the lower number.
+#[tactic(auto, unfolding(crate::specs::Line::lower))]
+fn worse_of(a: Option<Refusal>, b: Option<Refusal>) -> Option<Refusal>
+    ensures { numbered result ≡ lower (numbered a) (numbered b) }
 {
-    if argument::wrong_of(a) < argument::wrong_of(b) {
-        return a;
+    match (a, b) {
+        (Some(m), Some(n)) => if u8::from(m) < u8::from(n) { a } else { b },
+        (Some(_), None) => a,
+        (None, _) => b,
     }
-    b
 }
 
-// The argument with the lowest number of what is wrong.
+// What is wrong with the arguments by the lowest number.
 #[tactic(auto, unfolding(crate::specs::Line::lowest))]
-fn worst_of(x: Arguments) -> Argument
-    ensures { wrong_of result ≡ lowest x }
+fn worst_of(x: Arguments) -> Option<Refusal>
+    ensures { numbered result ≡ lowest x }
 {
-    let a = x.a;
-    let b = x.b;
-    let c = x.c;
-    let d = x.d;
-    let e = x.e;
-    let f = x.f;
-    let end = x.end;
-    let wf = worse_of(f, end);
-    let we = worse_of(e, wf);
-    let wd = worse_of(d, we);
-    let wc = worse_of(c, wd);
-    let wb = worse_of(b, wc);
-    worse_of(a, wb)
+    let wf = worse_of(argument::wrong_of(x.f), argument::wrong_of(x.end));
+    let we = worse_of(argument::wrong_of(x.e), wf);
+    let wd = worse_of(argument::wrong_of(x.d), we);
+    let wc = worse_of(argument::wrong_of(x.c), wd);
+    let wb = worse_of(argument::wrong_of(x.b), wc);
+    worse_of(argument::wrong_of(x.a), wb)
 }
 
 // A line that is not skipped, from `at` up to the end of these bytes of the script, where some names are declared: its
 // item, or what is wrong with it.
-pub fn judge_line(script: &[u8], at: usize, names: &[[u8; 16]]) -> Judged
+pub fn judge_line(script: &[u8], at: usize, names: &[[u8; 16]]) -> Result<Item, Refusal>
     ensures { meaning result ≡ judged names.now script.now at }
 {
     let w = word::word_at(script, at);
     match find_command(word::part_of(script, w)) {
-        Found::Nothing => Judged::Refused(Refusal::UnknownCommand),
-        Found::At(k) => {
+        None => Err(Refusal::UnknownCommand),
+        Some(k) => {
             let shape = shape_at(k);
             let make = make_at(k);
             let x = say_all(shape, script, w.end, names);
             match worst_of(x) {
-                Argument::Wrong(refusal) => Judged::Refused(refusal),
-                _ => Judged::Item(item_of(make, x)),
+                Some(why) => Err(why),
+                None => Ok(item_of(make, x)),
             }
         }
     }

@@ -1,16 +1,14 @@
 -- The item that a command makes of arguments in shape is in shape. Assumes nothing.
+use Rattle.std.proofs.Common.{Option, Some, None}
 use mathlib.Core.Path.{◌≡◌, refl, sym, ◌∙◌, ap}
 use mathlib.Core.Bool.{Bool, true, false, cond}
 use mathlib.Core.List.{List}
-use mathlib.Core.Option.{Option, none, some}
 use Prim.Native.Nat.{ℕ, ◌+◌, ◌≤◌}
 use native.Mathlib.Omega.{arith}
 use lib.Dec.{ltb}
 use lib.ListN.{length, get_or}
 use Rattle.table.specs.declared.Item.{Item}
 use Rattle.table.specs.Shape.{item_ok}
-use Rattle.word.specs.declared.Found.{Found}
-use Rattle.word.specs.declared.Found.TheVariants as At
 use Rattle.word.specs.Word.{word_at, part, padded, seek}
 use Rattle.argument.specs.declared.Form.{Form}
 use Rattle.argument.specs.Holds.{name_of, wrong_of}
@@ -104,7 +102,7 @@ second_old k = in_row (λ c. is_new (form c 1)) (λ c. false) k refl refl
 
 -- ---- nothing is wrong with any argument
 
-two_fine : (x : Arguments) → lowest x ≡ none → (wrong_of x.a ≡ none) × (wrong_of x.b ≡ none)
+two_fine : (x : Arguments) → lowest x ≡ None → (wrong_of x.a ≡ None) × (wrong_of x.b ≡ None)
 unfolding lowest
 two_fine x h =
     let p = lower_both (wrong_of x.a) _ h in
@@ -124,19 +122,19 @@ pub judged_fit : (names : List (List ℕ)) (line : List ℕ) (i : ℕ) (it : Ite
 unfolding judged arguments_at item_of_lem counted
 judged_fit names line i it n size e h l = go (seek command_words (part line (word_at line i))) e
   where
-    go : (f : Found) → by_command names line (word_at line i).end f ≡ item it → item_ok n size it ≡ true
-    go At.Nothing e = apart cc
-    go (At.At k) e = by (lowest x) refl e
+    go : (f : Option ℕ) → by_command names line (word_at line i).end f ≡ item it → item_ok n size it ≡ true
+    go None e = apart cc
+    go (Some k) e = by (lowest x) refl e
       where
         x : Arguments
         x = arguments_at names line (command_at k).shape (word_at line i).end
 
         by : (t : Option ℕ) → lowest x ≡ t → or_item t (item_of (command_at k).make x) ≡ item it
             → item_ok n size it ≡ true
-        by (some m) q e = apart cc
-        by none q e =
+        by (Some m) q e = apart cc
+        by None q e =
             let same : item_of (command_at k).make x ≡ it = ap (λ (j : Judgement). item_of_lem j it) e in
-            let fine : (wrong_of x.a ≡ none) × (wrong_of x.b ≡ none) = two_fine x q in
+            let fine : (wrong_of x.a ≡ None) × (wrong_of x.b ≡ None) = two_fine x q in
             let fa : Form = form (command_at k) 0 in
             let fb : Form = form (command_at k) 1 in
             let at_b : ℕ = (said_at names line fa (word_at line i).end).stop in

@@ -1,8 +1,8 @@
 -- Where a line declares a name there is room for it. Assumes nothing.
+use Rattle.std.proofs.Common.{Option, Some, None}
 use mathlib.Core.Path.{◌≡◌, refl, sym, ◌∙◌, ap, ap₂}
 use mathlib.Core.Bool.{Bool, true, false, cond}
 use mathlib.Core.List.{List, map}
-use mathlib.Core.Option.{Option, none, some}
 use Prim.Native.Nat.{ℕ, ◌+◌, ◌≤◌, ◌<◌}
 use native.Mathlib.Omega.{arith}
 use lib.Dec.{ltb}
@@ -11,8 +11,6 @@ use borrow.Author.Tests.{ltb-true}
 use Rattle.table.specs.declared.Item.{Item}
 use Rattle.table.specs.declared.Table.{Table}
 use Rattle.word.specs.Word.{word_at, part, padded, skipped, name_form, seek}
-use Rattle.word.specs.declared.Found.{Found}
-use Rattle.word.specs.declared.Found.TheVariants as At
 use Rattle.argument.specs.declared.Refusal.TheVariants as R
 use Rattle.argument.specs.declared.Argument.TheVariants as A
 use Rattle.argument.specs.declared.Form.{Form}
@@ -56,36 +54,36 @@ pub apart : {X : Type 0} → ◌≡◌ {A = ℕ} 0 1 → X
 apart z = absurd (omega arith)
 
 -- nothing is wrong, so no number is given
-pub never : {X : Type 0} {n : ℕ} → ◌≡◌ {A = Option ℕ} (some n) none → X
+pub never : {X : Type 0} {n : ℕ} → ◌≡◌ {A = Option ℕ} (Some n) None → X
 never e = apart cc
 
-new_room : (names : List (List ℕ)) (w : List ℕ) → wrong_of (new_said names w) ≡ none → length names < 32
+new_room : (names : List (List ℕ)) (w : List ℕ) → wrong_of (new_said names w) ≡ None → length names < 32
 unfolding new_said
 new_room names w h = go (name_form w) (seek names w) h
   where
-    go : (b : Bool) (f : Found) → wrong_of (cond b (fresh (length names) f) (A.Wrong R.BadArguments)) ≡ none
+    go : (b : Bool) (f : Option ℕ) → wrong_of (cond b (fresh (length names) f) (A.Wrong R.BadArguments)) ≡ None
         → length names < 32
     go false f h = never h
-    go true (At.At i) h = never h
-    go true At.Nothing h = full (ltb (length names) 32) refl h
+    go true (Some i) h = never h
+    go true None h = full (ltb (length names) 32) refl h
       where
         full : (b : Bool) → ltb (length names) 32 ≡ b
-            → wrong_of (cond b (A.Name (length names)) (A.Wrong R.TooManyNames)) ≡ none → length names < 32
+            → wrong_of (cond b (A.Name (length names)) (A.Wrong R.TooManyNames)) ≡ None → length names < 32
         full true e h = ltb-true _ _ e
         full false e h = never h
 
-pub lower_both : (a b : Option ℕ) → lower a b ≡ none → (a ≡ none) × (b ≡ none)
+pub lower_both : (a b : Option ℕ) → lower a b ≡ None → (a ≡ None) × (b ≡ None)
 unfolding lower
-lower_both none b h = (refl, h)
-lower_both (some m) none h = never h
-lower_both (some m) (some n) h = never h
+lower_both None b h = (refl, h)
+lower_both (Some m) None h = never h
+lower_both (Some m) (Some n) h = never h
 
-first_fine : (x : Arguments) → lowest x ≡ none → wrong_of x.a ≡ none
+first_fine : (x : Arguments) → lowest x ≡ None → wrong_of x.a ≡ None
 unfolding lowest
 first_fine x h = (lower_both (wrong_of x.a) _ h).0
 
 first_new : (names : List (List ℕ)) (line : List ℕ) (i : ℕ) (f : Form) → is_new f ≡ true
-    → wrong_of (said_at names line f i).argument ≡ none → length names < 32
+    → wrong_of (said_at names line f i).argument ≡ None → length names < 32
 unfolding is_new said_at said
 first_new names line i F.New e h = new_room names (part line (word_at line i)) h
 first_new names line i F.Nothing e h = apart cc
@@ -107,17 +105,17 @@ pub room : (names : List (List ℕ)) (line : List ℕ) (i : ℕ) (it : Item)
 unfolding judged arguments_at item_of_lem
 room names line i it e d = go (seek command_words (part line (word_at line i))) e
   where
-    go : (f : Found) → by_command names line (word_at line i).end f ≡ item it → length names < 32
-    go At.Nothing e = apart cc
-    go (At.At k) e = by (lowest x) refl e
+    go : (f : Option ℕ) → by_command names line (word_at line i).end f ≡ item it → length names < 32
+    go None e = apart cc
+    go (Some k) e = by (lowest x) refl e
       where
         x : Arguments
         x = arguments_at names line (command_at k).shape (word_at line i).end
 
         by : (t : Option ℕ) → lowest x ≡ t → or_item t (item_of (command_at k).make x) ≡ item it
             → length names < 32
-        by (some n) q e = apart cc
-        by none q e =
+        by (Some n) q e = apart cc
+        by None q e =
             let same : item_of (command_at k).make x ≡ it = ap (λ (j : Judgement). item_of_lem j it) e in
             let new : is_new (form_of (get_or (command_at k).shape 0 0)) ≡ true =
             sym (right k x) ∙ ap declares same ∙ d in

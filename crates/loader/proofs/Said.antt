@@ -1,7 +1,7 @@
 -- What an argument's word says is in shape: names below their count, literals finite, texts inside. Assumes nothing.
+use Rattle.std.proofs.Common.{Option, Some, None, Ok, Err}
 use mathlib.Core.Path.{◌≡◌, refl}
 use mathlib.Core.Bool.{Bool, true, false, cond}
-use mathlib.Core.Option.{none}
 use mathlib.Core.List.{List, [], ◌∷◌}
 use Prim.Native.Nat.{ℕ, suc, ◌+◌, ◌≤◌, ◌<◌}
 use native.Mathlib.Omega.{arith}
@@ -9,18 +9,11 @@ use lib.Dec.{ltb, leb, eqb}
 use lib.ListN.{length, drop, get_or}
 use borrow.Author.Tests.{lt-ltb, le-leb, ltb-true}
 use Rattle.text.specs.Cut.{before}
-use Rattle.value.specs.declared.Literal.{Literal}
 use Rattle.value.specs.Arithmetic.{finite}
-use Rattle.value.specs.Literal.{literal}
+use Rattle.value.specs.Literal.{Literal, literal}
 use Rattle.value.proofs.Finite.{Sound, literal_sound}
 use Rattle.table.specs.Shape.{operand_ok, inside}
-use Rattle.word.specs.declared.Found.{Found}
-use Rattle.word.specs.declared.Found.TheVariants as At
 use Rattle.word.specs.declared.Class.TheVariants as Class
-use Rattle.word.specs.declared.TypeName.{TypeName}
-use Rattle.word.specs.declared.TypeName.TheVariants as Ty
-use Rattle.word.specs.declared.Small.{Small}
-use Rattle.word.specs.declared.Small.TheVariants as Sm
 use Rattle.word.specs.Word.{run, word_at, part, name_form, read_type, small_of, padded, same_bytes, place, seek}
 use Rattle.argument.specs.Refusal.{number_of}
 use Rattle.argument.specs.declared.Refusal.{Refusal}
@@ -38,15 +31,15 @@ use Rattle.loader.proofs.Room.{is_new, apart, never}
 
 -- ---- a row that is found is one of the table
 
-abbrev Below : ℕ → Found → Type 0
-Below n (At.At i) = i < n
-Below n At.Nothing = Unit {0}
+abbrev Below : ℕ → Option ℕ → Type 0
+Below n (Some i) = i < n
+Below n None = Unit {0}
 
-widen : (f : Found) {n m : ℕ} → n ≤ m → Below n f → Below m f
-widen (At.At i) h b = omega arith
-widen At.Nothing h b = tt
+widen : (f : Option ℕ) {n m : ℕ} → n ≤ m → Below n f → Below m f
+widen (Some i) h b = omega arith
+widen None h b = tt
 
-pick : (b : Bool) (n : ℕ) (x y : Found) → Below n x → Below n y → Below n (cond b x y)
+pick : (b : Bool) (n : ℕ) (x y : Option ℕ) → Below n x → Below n y → Below n (cond b x y)
 pick true n x y h k = h
 pick false n x y h k = k
 
@@ -56,15 +49,15 @@ place_below j [] key = tt
 place_below j (r ∷ rows) key =
     let l : j + 1 + length rows ≤ j + suc (length rows) = omega arith in
     let m : j < j + suc (length rows) = omega arith in
-    let later : Found = place (j + 1) rows key in
-    pick (same_bytes r key) (j + suc (length rows)) (At.At j) later m (widen later l (place_below (j + 1) rows key))
+    let later : Option ℕ = place (j + 1) rows key in
+    pick (same_bytes r key) (j + suc (length rows)) (Some j) later m (widen later l (place_below (j + 1) rows key))
 
 pub seek_below : (rows : List (List ℕ)) (w : List ℕ) → Below (length rows) (seek rows w)
 unfolding seek
 seek_below rows w =
     let l : 0 + length rows ≤ length rows = omega arith in
-    let row : Found = place 0 rows (padded w) in
-    pick (leb (length w) 16) (length rows) row At.Nothing (widen row l (place_below 0 rows (padded w))) tt
+    let row : Option ℕ = place 0 rows (padded w) in
+    pick (leb (length w) 16) (length rows) row None (widen row l (place_below 0 rows (padded w))) tt
 
 -- ---- an argument in shape, in a table of n names over so many bytes
 
@@ -93,43 +86,43 @@ module _ (n size : ℕ) where
   unfolding finite
   name_fit i = record { operand = refl; value = refl; text = nothing_inside }
 
-  known_fit : (f : Found) → Fit n size (known f)
-  known_fit (At.At i) = name_fit i
-  known_fit At.Nothing = wrong_fit R.Undeclared
+  known_fit : (f : Option ℕ) → Fit n size (known f)
+  known_fit (Some i) = name_fit i
+  known_fit None = wrong_fit R.Undeclared
 
-  fresh_fit : (k : ℕ) (f : Found) → Fit n size (fresh k f)
-  fresh_fit k (At.At i) = wrong_fit R.DeclaredTwice
-  fresh_fit k At.Nothing = either (ltb k 32) _ _ (name_fit k) (wrong_fit R.TooManyNames)
+  fresh_fit : (k : ℕ) (f : Option ℕ) → Fit n size (fresh k f)
+  fresh_fit k (Some i) = wrong_fit R.DeclaredTwice
+  fresh_fit k None = either (ltb k 32) _ _ (name_fit k) (wrong_fit R.TooManyNames)
 
   valued_fit : (l : Literal) → Sound l → Fit n size (valued_by l)
   unfolding finite
-  valued_fit (Literal.Value v i) h = record { operand = refl; value = h; text = nothing_inside }
-  valued_fit (Literal.Bad i) h = wrong_fit R.BadArguments
+  valued_fit (Ok (v, i)) h = record { operand = refl; value = h; text = nothing_inside }
+  valued_fit (Err i) h = wrong_fit R.BadArguments
 
-  known_operand_fit : (f : Found) → Below n f → Fit n size (known_operand f)
+  known_operand_fit : (f : Option ℕ) → Below n f → Fit n size (known_operand f)
   unfolding finite
-  known_operand_fit (At.At i) h = record { operand = lt-ltb i n h; value = refl; text = nothing_inside }
-  known_operand_fit At.Nothing h = wrong_fit R.Undeclared
+  known_operand_fit (Some i) h = record { operand = lt-ltb i n h; value = refl; text = nothing_inside }
+  known_operand_fit None h = wrong_fit R.Undeclared
 
   literal_operand_fit : (l : Literal) → Sound l → Fit n size (literal_operand l)
   unfolding finite
-  literal_operand_fit (Literal.Value v i) h = record { operand = h; value = refl; text = nothing_inside }
-  literal_operand_fit (Literal.Bad i) h = wrong_fit R.BadArguments
+  literal_operand_fit (Ok (v, i)) h = record { operand = h; value = refl; text = nothing_inside }
+  literal_operand_fit (Err i) h = wrong_fit R.BadArguments
 
-  type_fit : (t : TypeName) → Fit n size (lettered_by t)
+  type_fit : (t : Option ℕ) → Fit n size (lettered_by t)
   unfolding finite
-  type_fit (Ty.Letters t) = record { operand = refl; value = refl; text = nothing_inside }
-  type_fit Ty.Bad = wrong_fit R.BadArguments
+  type_fit (Some t) = record { operand = refl; value = refl; text = nothing_inside }
+  type_fit None = wrong_fit R.BadArguments
 
-  number_fit : (k : Small) → Fit n size (numbered_by k)
+  number_fit : (k : Option ℕ) → Fit n size (numbered_by k)
   unfolding finite
-  number_fit (Sm.Number k) = record { operand = refl; value = refl; text = nothing_inside }
-  number_fit Sm.Bad = wrong_fit R.BadArguments
+  number_fit (Some k) = record { operand = refl; value = refl; text = nothing_inside }
+  number_fit None = wrong_fit R.BadArguments
 
-  compared_fit : (f : Found) → Fit n size (compared_by f)
+  compared_fit : (f : Option ℕ) → Fit n size (compared_by f)
   unfolding finite
-  compared_fit (At.At i) = record { operand = refl; value = refl; text = nothing_inside }
-  compared_fit At.Nothing = wrong_fit R.BadArguments
+  compared_fit (Some i) = record { operand = refl; value = refl; text = nothing_inside }
+  compared_fit None = wrong_fit R.BadArguments
 
   said_fit : (form : Form) (names : List (List ℕ)) (w : List ℕ) → length names ≤ n → Fit n size (said form names w)
   unfolding said empty_said new_said name_said operand_said literal_said type_said number_said comparison_said
@@ -196,28 +189,29 @@ is_named F.Number = false
 is_named F.Comparison = false
 is_named F.Text = false
 
-old_named : (names : List (List ℕ)) (w : List ℕ) (n : ℕ) → length names ≤ n → wrong_of (name_said names w) ≡ none
+old_named : (names : List (List ℕ)) (w : List ℕ) (n : ℕ) → length names ≤ n → wrong_of (name_said names w) ≡ None
     → ltb (name_of (name_said names w)) n ≡ true
 unfolding name_said number_of
 old_named names w n h k = go (name_form w) (seek names w) (widen (seek names w) h (seek_below names w)) k
   where
-    go : (b : Bool) (f : Found) → Below n f → wrong_of (cond b (known f) (A.Wrong R.BadArguments)) ≡ none
+    go : (b : Bool) (f : Option ℕ) → Below n f → wrong_of (cond b (known f) (A.Wrong R.BadArguments)) ≡ None
         → ltb (name_of (cond b (known f) (A.Wrong R.BadArguments))) n ≡ true
-    go true (At.At i) l k = lt-ltb i n l
-    go true At.Nothing l k = never k
+    go true (Some i) l k = lt-ltb i n l
+    go true None l k = never k
     go false f l k = never k
 
-new_named : (names : List (List ℕ)) (w : List ℕ) (n : ℕ) → length names < n → wrong_of (new_said names w) ≡ none
+new_named : (names : List (List ℕ)) (w : List ℕ) (n : ℕ) → length names < n → wrong_of (new_said names w) ≡ None
     → ltb (name_of (new_said names w)) n ≡ true
 unfolding new_said number_of
 new_named names w n h k = go (name_form w) (seek names w) (ltb (length names) 32) k
   where
-    go : (b : Bool) (f : Found) (t : Bool) → wrong_of (cond b (fresh (length names) f) (A.Wrong R.BadArguments)) ≡ none
+    go : (b : Bool) (f : Option ℕ) (t : Bool)
+        → wrong_of (cond b (fresh (length names) f) (A.Wrong R.BadArguments)) ≡ None
         → ltb (name_of (cond b (fresh (length names) f) (A.Wrong R.BadArguments))) n ≡ true
-    go true (At.At i) t k = never k
-    go true At.Nothing t k = full (ltb (length names) 32) k
+    go true (Some i) t k = never k
+    go true None t k = full (ltb (length names) 32) k
       where
-        full : (b : Bool) → wrong_of (cond b (A.Name (length names)) (A.Wrong R.TooManyNames)) ≡ none
+        full : (b : Bool) → wrong_of (cond b (A.Name (length names)) (A.Wrong R.TooManyNames)) ≡ None
             → ltb (name_of (cond b (A.Name (length names)) (A.Wrong R.TooManyNames))) n ≡ true
         full true k = lt-ltb (length names) n h
         full false k = never k
@@ -225,7 +219,7 @@ new_named names w n h k = go (name_form w) (seek names w) (ltb (length names) 32
 
 pub named_fit : (names : List (List ℕ)) (line : List ℕ) (form : Form) (i n : ℕ) → is_named form ≡ true
     → cond (is_new form) (length names + 1) (length names) ≤ n
-    → wrong_of (said_at names line form i).argument ≡ none → ltb (name_of (said_at names line form i).argument) n ≡ true
+    → wrong_of (said_at names line form i).argument ≡ None → ltb (name_of (said_at names line form i).argument) n ≡ true
 unfolding said_at said is_named is_new
 named_fit names line F.New i n e h k = new_named names (part line (word_at line i)) n (omega arith) k
 named_fit names line F.Name i n e h k = old_named names (part line (word_at line i)) n h k

@@ -1,25 +1,24 @@
 -- No second answer fits a public function's contract.
-use mathlib.Core.Path.{◌≡◌, refl, sym, ◌∙◌, ap, ap₂}
+use Rattle.std.proofs.Common.{Result, Ok, Err}
+use mathlib.Core.Path.{◌≡◌, sym, ◌∙◌, ap, ap₂}
 use mathlib.Core.List.{List}
 use Prim.Native.Nat.{ℕ}
 use Rattle.table.specs.declared.Table.{Table}
+use Rattle.argument.specs.declared.Refusal.{Refusal}
 use Rattle.argument.proofs.Refusals.{same_number}
-use Rattle.loader.specs.declared.Answer.{Answer}
-use Rattle.loader.specs.declared.Loaded.{Loaded}
-use Rattle.loader.specs.Load.{Outcome, answer_number, answer_line, meaning, loaded}
+use Rattle.loader.specs.Load.{Outcome, meaning, loaded}
 use Rattle.loader.proofs.Walk.{not_zero}
 
-same_answer : (a b : Answer) → answer_number a ≡ answer_number b → answer_line a ≡ answer_line b → a ≡ b
-same_answer Answer.Accepted Answer.Accepted e f = refl
-same_answer Answer.Accepted (Answer.Refused r n) e f = absurd (not_zero r (sym e))
-same_answer (Answer.Refused r n) Answer.Accepted e f = absurd (not_zero r e)
-same_answer (Answer.Refused r n) (Answer.Refused r' n') e f = ap₂ Answer.Refused (same_number r r' e) f
+abbrev Answer : Type 0
+Answer = Result Table (Refusal × ℕ)
 
-same_meaning : (r r' : Loaded) → meaning r ≡ meaning r' → r ≡ r'
-same_meaning r r' e =
-    ap₂ (λ (a : Answer) (p : Table). record { answer = a; table = p })
-    (same_answer r.answer r'.answer (ap (λ (o : Outcome). o.number) e) (ap (λ (o : Outcome). o.line) e))
-    (ap (λ (o : Outcome). o.table) e)
+same_meaning : (r r' : Answer) → meaning r ≡ meaning r' → r ≡ r'
+same_meaning (Ok p) (Ok q) e = ap Ok (ap (λ (o : Outcome). o.table) e)
+same_meaning (Ok p) (Err (r, n)) e = absurd (not_zero r (sym (ap (λ (o : Outcome). o.number) e)))
+same_meaning (Err (r, n)) (Ok q) e = absurd (not_zero r (ap (λ (o : Outcome). o.number) e))
+same_meaning (Err (r, n)) (Err (q, m)) e =
+    ap₂ (λ (x : Refusal) (y : ℕ). Err (x, y))
+    (same_number r q (ap (λ (o : Outcome). o.number) e)) (ap (λ (o : Outcome). o.line) e)
 
-pub only_load : (text : List ℕ) (r r' : Loaded) → meaning r ≡ loaded text → meaning r' ≡ loaded text → r ≡ r'
+pub only_load : (text : List ℕ) (r r' : Answer) → meaning r ≡ loaded text → meaning r' ≡ loaded text → r ≡ r'
 only_load text r r' e e' = same_meaning r r' (e ∙ sym e')

@@ -1,15 +1,14 @@
 -- 01, "Script text" and "The checker": form. "10, then lines in order, lowest number within a line, then 11."
 use Rattle.std.specs.Prelude.{Bool, true, false, cond, List, [], ◌∷◌, ◌++◌, ℕ, ◌+◌, ltb, eqb, length, take, set}
-use Rattle.std.specs.Prelude.{replicate}
+use Rattle.std.specs.Prelude.{replicate, Result, Ok, Err}
 use Rattle.text.specs.Cut.{lines}
 use Rattle.table.specs.declared.Act.{Act}
 use Rattle.table.specs.declared.Item.{Item}
 use Rattle.table.specs.declared.Table.{Table}
 use Rattle.word.specs.Word.{word_at, part, padded, skipped}
+use Rattle.argument.specs.declared.Refusal.{Refusal}
 use Rattle.argument.specs.Refusal.{number_of}
 use Rattle.line.specs.Line.{Judgement, item, refused, judged}
-use Rattle.loader.specs.declared.Answer.{Answer}
-use Rattle.loader.specs.declared.Loaded.{Loaded}
 
 -- ---- what loading gives: 01's number and line, both 0 where the text is accepted, and the table
 
@@ -17,17 +16,6 @@ pub record Outcome : Type 0 where
   pub number : ℕ
   pub line : ℕ
   pub table : Table
-
-abbrev pub answer_number : Answer → ℕ
-answer_number Answer.Accepted = 0
-answer_number (Answer.Refused r n) = number_of r
-
-abbrev pub answer_line : Answer → ℕ
-answer_line Answer.Accepted = 0
-answer_line (Answer.Refused r n) = n
-
-abbrev pub meaning : Loaded → Outcome
-meaning l = record { number = answer_number l.answer; line = answer_line l.answer; table = l.table }
 
 abbrev pub empty_table : Table
 empty_table =
@@ -49,6 +37,10 @@ accepted p nr =
       line = 0;
       table = record { items = p.items; count = p.count; names = p.names; end = nr };
     }
+
+abbrev pub meaning : Result Table (Refusal × ℕ) → Outcome
+meaning (Ok p) = record { number = 0; line = 0; table = p }
+meaning (Err (r, n)) = refusal (number_of r) n
 
 -- ---- one item more, and the name that it declares
 

@@ -20,17 +20,16 @@ use Rattle.state.proofs.Things.{outs-set, outs-length}
 use Rattle.effect.specs.Code as effects
 use Rattle.effect.specs.declared.Effect.{Effect}
 use Rattle.effect.specs.declared.Spot.{Spot}
-use Rattle.state.specs.declared.Thing.{Thing}
 use Rattle.state.specs.declared.What.{What}
 use Rattle.steps.specs.Machine.{leave_outs}
 use Rattle.steps.specs.Code.{handed, count_of, hands_out, open_at}
 use Rattle.steps.proofs.Placed.{leave_more}
 use Rattle.steps.proofs.Shapes.{and_l, and_r}
-use Rattle.lookup.specs.Lookup.{leave_of}
+use Rattle.lookup.specs.Lookup.{leave_of, Lays}
 use Rattle.lookup.proofs.Seeing.{leave_seen}
 
 -- so many things stand in a row of n, with nothing past them
-pub record Laid (n : ℕ) (hs : List Thing) (h : ℕ) (os : List Out) : Type 0 where
+pub record Laid (n : ℕ) (hs : List What) (h : ℕ) (os : List Out) : Type 0 where
   pub wide : length hs ≡ n
   pub taken : take h (outs_of hs) ≡ os
   pub blank : drop h (outs_of hs) ≡ replicate (n - h) nought
@@ -42,41 +41,41 @@ set_front (y ∷ l) zero x r e =
     rw k
 set_front (y ∷ l) (suc h) x r e = ap {B = List _} (λ z. y ∷ z) (set_front l h x r e)
 
-module _ {n : ℕ} {hs : List Thing} {h : ℕ} {os : List Out} (w : Laid n hs h os) (q : h < n) where
+module _ {n : ℕ} {hs : List What} {h : ℕ} {os : List Out} (w : Laid n hs h os) (q : h < n) where
   some_left : drop h (outs_of hs) ≡ nought ∷ replicate (n - suc h) nought
   some_left =
       let e : n - h ≡ suc (n - suc h) = omega arith in
       rw e at w.blank
 
-  lay_none : Laid n (set hs h (record { what = What.Nothing })) (h + 0) (os ++ [])
+  lay_none : Laid n (set hs h What.Nothing) (h + 0) (os ++ [])
   lay_none =
       let e : h + 0 ≡ h = omega arith in
-      let same : outs_of (set hs h (record { what = What.Nothing })) ≡ outs_of hs =
-      outs-set hs h (record { what = What.Nothing })
+      let same : outs_of (set hs h What.Nothing) ≡ outs_of hs =
+      outs-set hs h What.Nothing
       ∙ set_front (outs_of hs) h nought (replicate (n - suc h) nought) some_left in
       record {
-        wide = length-set hs h (record { what = What.Nothing }) ∙ w.wide;
+        wide = length-set hs h What.Nothing ∙ w.wide;
         taken = rw (e, same, append-nil os) w.taken;
         blank = rw (e, same) w.blank;
       }
 
-  lay_one : (v : What) → Laid n (set hs h (record { what = v })) (h + 1) (os ++ out_of v ∷ [])
+  lay_one : (v : What) → Laid n (set hs h (v)) (h + 1) (os ++ out_of v ∷ [])
   lay_one v = record {
-    wide = length-set hs h (record { what = v }) ∙ w.wide;
+    wide = length-set hs h (v) ∙ w.wide;
     taken =
-        rw (add-one, outs-set hs h (record { what = v }))
+        rw (add-one, outs-set hs h (v))
         (take-suc-set (outs_of hs) h (out_of v) (omega (arith, outs-length hs, w.wide))
         ∙ ap (λ (l : List Out). l ++ out_of v ∷ []) w.taken);
     blank =
-        rw (add-one, outs-set hs h (record { what = v }))
+        rw (add-one, outs-set hs h (v))
         (drop-set-lt (suc h) (outs_of hs) h (out_of v) (omega arith)
         ∙ drop-step h (outs_of hs) nought (replicate (n - suc h) nought) some_left);
   }
 
-  lay : (v : What) (c : ℕ) → c ≡ count_of v → Laid n (set hs h (record { what = v })) (h + c) (os ++ handed v)
+  lay : (v : What) (c : ℕ) → c ≡ count_of v → Laid n (set hs h (v)) (h + c) (os ++ handed v)
   lay v c e = rw e (go v)
     where
-      go : (v : What) → Laid n (set hs h (record { what = v })) (h + count_of v) (os ++ handed v)
+      go : (v : What) → Laid n (set hs h (v)) (h + count_of v) (os ++ handed v)
       go What.Nothing = lay_none
       go (What.Enter s) = lay_one (What.Enter s)
       go (What.Leave s) = lay_one (What.Leave s)
@@ -109,17 +108,17 @@ count-length (What.Order o) = refl
 -- ---- the marks of boxes that are left
 
 -- k boxes are still to be left; all comes to os; at most eight things more than h₀
-record Leaving (n : ℕ) (xs : List Item) (l : List ℕ) (os : List Out) (h₀ : ℕ) (hs : List Thing) (h k : ℕ) : Type 0
+record Leaving (n : ℕ) (xs : List Item) (l : List ℕ) (os : List Out) (h₀ : ℕ) (hs : List What) (h k : ℕ) : Type 0
   where
     pub laid : Laid n hs h (take h (outs_of hs))
     pub few : k ≤ 8
     pub room : h + k ≤ h₀ + 8
     pub so_far : take h (outs_of hs) ++ leave_outs xs (tops l k) ≡ os
 
-relaid : {n : ℕ} {hs : List Thing} {h : ℕ} {os : List Out} → Laid n hs h os → Laid n hs h (take h (outs_of hs))
+relaid : {n : ℕ} {hs : List What} {h : ℕ} {os : List Out} → Laid n hs h os → Laid n hs h (take h (outs_of hs))
 relaid w = record { wide = w.wide; taken = refl; blank = w.blank }
 
-module _ {n : ℕ} {hs : List Thing} {h₀ h : ℕ} (os : List Out) (xs : List Item) (s : Spot) (e : Effect) where
+module _ {n : ℕ} {hs : List What} {h₀ h : ℕ} (os : List Out) (xs : List Item) (s : Spot) (e : Effect) where
   -- the effect's own things are laid
   leave_starts : (k : ℕ) → Laid n hs h ((os ++ handed e.one) ++ handed e.two)
       → h ≡ (h₀ + count_of e.one) + count_of e.two
@@ -159,12 +158,12 @@ module _ {n : ℕ} {hs : List Thing} {h₀ h : ℕ} (os : List Out) (xs : List I
             (append_assoc os hands []);
       }
 
-module _ {n : ℕ} {xs : List Item} {l : List ℕ} {os : List Out} {h₀ : ℕ} {hs : List Thing} {h k : ℕ}
+module _ {n : ℕ} {xs : List Item} {l : List ℕ} {os : List Out} {h₀ : ℕ} {hs : List What} {h k : ℕ}
     (w : Leaving n xs l os h₀ hs h k) where
   -- one box more, with its mark
   leave_on : (v : What) (c : ℕ) → 0 < k → h₀ + 8 ≤ n → c ≡ count_of v
       → handed v ≡ leave_outs xs (get_or l (k - 1) 0 ∷ [])
-      → Leaving n xs l os h₀ (set hs h (record { what = v })) (h + c) (k - 1)
+      → Leaving n xs l os h₀ (set hs h (v)) (h + c) (k - 1)
   leave_on v c q r e f =
       let new = lay w.laid (omega (arith, w.room)) v c e in
       record {
@@ -172,7 +171,7 @@ module _ {n : ℕ} {xs : List Item} {l : List ℕ} {os : List Out} {h₀ : ℕ} 
         few = omega (arith, w.few);
         room = omega (arith, w.room, e, count_one v);
         so_far =
-            leave_more xs l k (take h (outs_of hs)) (take (h + c) (outs_of (set hs h (record { what = v }))))
+            leave_more xs l k (take h (outs_of hs)) (take (h + c) (outs_of (set hs h (v))))
             (λ z. omega arith)
             (new.taken ∙ ap (λ (z : List Out). take h (outs_of hs) ++ z) f)
             ∙ w.so_far;
@@ -187,13 +186,10 @@ module _ {n : ℕ} {xs : List Item} {l : List ℕ} {os : List Out} {h₀ : ℕ} 
         blank = w.laid.blank;
       }
 
-none_laid : (hs : List Thing) → hs ≡ replicate 8 (record { what = What.Nothing }) → Laid 8 hs 0 []
+none_laid : (hs : List What) → hs ≡ replicate 8 What.Nothing → Laid 8 hs 0 []
 none_laid hs e = record { wide = rw e; taken = refl; blank = rw e }
 
-counted_two : (h a b x y : ℕ) → a ≡ x → b ≡ y → (h + a) + b ≡ (h + x) + y
-counted_two h a b x y e f = rw (e, f)
-
-pub laid_so : {n : ℕ} {hs : List Thing} {h : ℕ} {os os' : List Out} → Laid n hs h os → os ≡ os' → Laid n hs h os'
+pub laid_so : {n : ℕ} {hs : List What} {h : ℕ} {os os' : List Out} → Laid n hs h os → os ≡ os' → Laid n hs h os'
 laid_so w e = record { wide = w.wide; taken = w.taken ∙ e; blank = w.blank }
 
 pub counted_few : (v : What) {c : ℕ} → c ≡ count_of v → c ≤ 1
@@ -202,38 +198,40 @@ counted_few v e = rw e (count_one v)
 -- ---- the things of one turn
 
 -- where a turn begins: h things stand in a row of n, and eight more have room
-pub record Ready (n : ℕ) (hs : List Thing) (h : ℕ) : Type 0 where
+pub record Ready (n : ℕ) (hs : List What) (h : ℕ) : Type 0 where
   pub laid : Laid n hs h (take h (outs_of hs))
   pub room : h + 8 ≤ n
 
-pub none_yet : {hs : List Thing} → hs ≡ replicate 8 (record { what = What.Nothing }) → Ready 8 hs 0
+pub none_yet : {hs : List What} → hs ≡ replicate 8 What.Nothing → Ready 8 hs 0
 none_yet {hs} e = record { laid = none_laid hs e; room = omega arith }
 
 -- an effect's own two things are laid behind the h₀ things of hs₀
-pub record Begun (n : ℕ) (hs₀ : List Thing) (h₀ : ℕ) (e : Effect) (hs : List Thing) (h : ℕ) : Type 0 where
+pub record Begun (n : ℕ) (hs₀ : List What) (h₀ : ℕ) (e : Effect) (hs : List What) (h : ℕ) : Type 0 where
   pub room : h₀ + 8 ≤ n
   pub laid : Laid n hs h ((take h₀ (outs_of hs₀) ++ handed e.one) ++ handed e.two)
   pub counted : h ≡ (h₀ + count_of e.one) + count_of e.two
 
--- the first of them counts a, the second b
-abbrev pub TwoLaid : ℕ → List Thing → ℕ → Effect → ℕ → ℕ → Type 0
-TwoLaid n hs h e a b =
-    Begun n hs h e (set (set hs h (record { what = e.one })) (h + a) (record { what = e.two })) ((h + a) + b)
+lay_by : {n : ℕ} {hs : List What} {h : ℕ} {os : List Out} {v : What} {hs' : List What} {h' : ℕ} → Laid n hs h os
+    → h < n → Lays hs h v hs' h'
+    → Laid n hs' h' (os ++ handed v)
+lay_by {v = v} w q l = rw (l.laid, l.counted) (lay w q v (count_of v) refl)
 
-pub two_laid : {n h₀ : ℕ} {hs₀ : List Thing} {e : Effect} {a b : ℕ} → Ready n hs₀ h₀ → a ≡ count_of e.one
-    → b ≡ count_of e.two
-    → TwoLaid n hs₀ h₀ e a b
-two_laid {n} {h₀} {hs₀} {e} {a} {b} w p q =
-    let few = counted_few e.one p in
+-- one behind the other
+pub two_laid : {n h₀ h₁ h₂ : ℕ} {hs₀ hs₁ hs₂ : List What} {e : Effect} → Ready n hs₀ h₀ → Lays hs₀ h₀ e.one hs₁ h₁
+    → Lays hs₁ h₁ e.two hs₂ h₂
+    → Begun n hs₀ h₀ e hs₂ h₂
+two_laid {e = e} w a b =
     record {
       room = w.room;
-      laid = lay (lay w.laid (omega (arith, w.room)) e.one a p) (omega (arith, w.room, few)) e.two b q;
-      counted = counted_two h₀ a b (count_of e.one) (count_of e.two) p q;
+      laid =
+          lay_by (lay_by w.laid (omega (arith, w.room)) a)
+          (omega (arith, w.room, a.counted, count_one e.one)) b;
+      counted = b.counted ∙ ap (λ (k : ℕ). k + count_of e.two) a.counted;
     }
 
 -- k boxes are still to be left, of k₀ at the start, when h₀ things stood in hs₀; the turn began with `from` things
 pub record Leaves
-    (n : ℕ) (ms : List Mark) (l : List ℕ) (hs₀ : List Thing) (h₀ k₀ from : ℕ) (hs : List Thing) (h k : ℕ)
+    (n : ℕ) (ms : List Mark) (l : List ℕ) (hs₀ : List What) (h₀ k₀ from : ℕ) (hs : List What) (h k : ℕ)
     : Type 0 where
   pub since : from ≤ h
   pub few : k ≤ 8
@@ -243,7 +241,7 @@ pub record Leaves
   pub so_far : Seen ms (λ xs. take h (outs_of hs) ++ leave_outs xs (tops l k)
       ≡ take h₀ (outs_of hs₀) ++ leave_outs xs (tops l k₀))
 
-module _ {n : ℕ} {ms : List Mark} {l : List ℕ} {hs₀ : List Thing} {h₀ k₀ from : ℕ} {hs : List Thing} {h k : ℕ}
+module _ {n : ℕ} {ms : List Mark} {l : List ℕ} {hs₀ : List What} {h₀ k₀ from : ℕ} {hs : List What} {h k : ℕ}
     (w : Leaves n ms l hs₀ h₀ k₀ from hs h k) where
   leaving : (xs : List Item) → Marked xs ms
       → Leaving n xs l (take h₀ (outs_of hs₀) ++ leave_outs xs (tops l k₀)) from hs h k
@@ -253,18 +251,25 @@ module _ {n : ℕ} {ms : List Mark} {l : List ℕ} {hs₀ : List Thing} {h₀ k�
   leaves_room q = omega (arith, w.room, w.fits)
 
   -- one turn of the loop: the mark of one box more
-  pub leaves_on : {c : ℕ} (v : What) → 0 < k → c ≡ count_of v → v ≡ leave_of ms (get_or l (k - 1) 0)
-      → Leaves n ms l hs₀ h₀ k₀ from (set hs h (record { what = v })) (h + c) (k - 1)
-  leaves_on {c} v q e f = record {
+  leaves_one : (v : What) → 0 < k → v ≡ leave_of ms (get_or l (k - 1) 0)
+      → Leaves n ms l hs₀ h₀ k₀ from (set hs h v) (h + count_of v) (k - 1)
+  leaves_one v q f = record {
     since = omega (arith, w.since);
     few = omega (arith, w.few);
-    room = omega (arith, w.room, counted_few v e);
+    room = omega (arith, w.room, count_one v);
     fits = w.fits;
-    laid = relaid (lay w.laid (leaves_room q) v c e);
-    so_far = λ xs m. (leave_on (leaving xs m) v c q w.fits e (ap handed f ∙ leave_seen m (get_or l (k - 1) 0))).so_far;
+    laid = relaid (lay w.laid (leaves_room q) v (count_of v) refl);
+    so_far =
+        λ xs m. (leave_on (leaving xs m) v (count_of v) q w.fits refl
+        (ap handed f ∙ leave_seen m (get_or l (k - 1) 0))).so_far;
   }
 
-module _ {n : ℕ} {hs₀ : List Thing} {h₀ : ℕ} {e : Effect} {hs : List Thing} {h : ℕ} (w : Begun n hs₀ h₀ e hs h)
+  pub leaves_on : {v : What} {hs' : List What} {h' : ℕ} → 0 < k → v ≡ leave_of ms (get_or l (k - 1) 0)
+      → Lays hs h v hs' h'
+      → Leaves n ms l hs₀ h₀ k₀ from hs' h' (k - 1)
+  leaves_on {v} q f x = rw (x.laid, x.counted) (leaves_one v q f)
+
+module _ {n : ℕ} {hs₀ : List What} {h₀ : ℕ} {e : Effect} {hs : List What} {h : ℕ} (w : Begun n hs₀ h₀ e hs h)
     (s : Spot) {k : ℕ} (q : k ≡ effects.boxes_left e.leaves s.depth (h - h₀))
     (deep : e.leaves ≡ true → s.depth ≤ 8) where
   begins : (xs : List Item)
@@ -282,7 +287,7 @@ module _ {n : ℕ} {hs₀ : List Thing} {h₀ : ℕ} {e : Effect} {hs : List Thi
   }
 
   -- no box is left over: all that the effect hands out is laid
-  pub leaves_end : {ms : List Mark} {hs' : List Thing} {h' k' : ℕ} → Leaves n ms s.boxes hs h k h₀ hs' h' k'
+  pub leaves_end : {ms : List Mark} {hs' : List What} {h' k' : ℕ} → Leaves n ms s.boxes hs h k h₀ hs' h' k'
       → k' ≤ 0
       → (xs : List Item) → Marked xs ms
       → Laid n hs' h' (take h₀ (outs_of hs₀) ++ hands_out (leave_outs xs (open_at s)) e)

@@ -1,4 +1,5 @@
 -- One turn up to its effect: what its calls said, place by place, and that the effect is 01's step.
+use Rattle.std.proofs.Common.{Option}
 use Prim.Native.Nat.{ℕ, ◌+◌, ◌-◌, ◌≤◌, ◌<◌}
 use mathlib.Core.Path.{◌≡◌, refl, sym, ap, ◌∙◌}
 use mathlib.Core.Bool.{Bool, true, false, ◌&&◌}
@@ -25,17 +26,16 @@ use Rattle.operands.specs.Code as operands
 use Rattle.effect.specs.declared.Spot.{Spot}
 use Rattle.effect.specs.declared.Effect.{Effect}
 use Rattle.effect.specs.declared.Around.{Around}
-use Rattle.operands.specs.declared.Cells.{Cells}
+use Rattle.operands.specs.Code.{Cells}
 use Rattle.effect.specs.declared.Chosen.{Chosen}
 use Rattle.effect.specs.declared.Looked.{Looked}
-use Rattle.operands.specs.declared.Operands.{Operands}
-use Rattle.operands.specs.declared.Places.{Places}
-use Rattle.effect.specs.declared.Tried.{Tried}
+use Rattle.operands.specs.Code.{Operands}
+use Rattle.operands.specs.Code.{Places}
 use Rattle.state.specs.declared.Control.{Control}
 use Rattle.state.specs.declared.Offer.{Offer}
 use Rattle.state.specs.declared.Status.{Status}
-use Rattle.state.specs.declared.Thing.{Thing}
-use Rattle.state.specs.declared.Var.{Var}
+use Rattle.state.specs.declared.What.{What}
+use Rattle.state.specs.State.{Cell}
 use Rattle.state.specs.declared.State as coded
 use Rattle.steps.specs.Machine.{leave_outs, state_ok}
 use Rattle.steps.specs.Code.{state_with, step_of, operand_cell, chosen_of, tried_by, open_at, Here}
@@ -44,13 +44,13 @@ use Rattle.steps.proofs.Effecting.{effect_is}
 use Rattle.steps.proofs.Lookups.{reads_all, reads_first, reads_second, mates, tried_all, first_tried, count_is}
 use Rattle.steps.proofs.Lookups.{items_few, item_clamped, tag_is, goes_on, tried_more, item_here}
 use Rattle.steps.proofs.Shapes.{and_r, shape_stands}
-use Rattle.lookup.specs.Lookup.{state_in, spot_of, around_in, tried_in}
+use Rattle.lookup.specs.Lookup.{state_in, spot_of, cells_at, around_in, tried_in}
 use Rattle.lookup.proofs.Laying.{Laid}
 use Rattle.lookup.proofs.Passing.{Surveyed}
 use Rattle.lookup.proofs.Seeing.{state_seen, sweeping_seen, around_seen, tried_seen}
 
 -- a run whose table and state are in shape has at most eight open boxes
-known_deep : (size : ℕ) (t : Table) (vars : List Var) (s : Spot) (st : Status) (b : Bool) → length t.items ≡ 128
+known_deep : (size : ℕ) (t : Table) (vars : List Cell) (s : Spot) (st : Status) (b : Bool) → length t.items ≡ 128
     → b ≡ (in_shape size t && state_ok (items_of t) (state_with (cells_of vars) s st)) → b ≡ true → s.depth ≤ 8
 known_deep size t vars s st b full e q =
     rw (tops-length s.boxes s.depth) at
@@ -65,7 +65,7 @@ leaves_deep true s st k c o e d q z = d refl
 leaves_deep false s st k c o e d q z = no' (sym (ap (λ (x : Effect). x.leaves) q) ∙ z)
 
 -- how many things were laid
-pub laid_count : (n h₀ h : ℕ) (hs hs₀ : List Thing) (os : List Out) → length hs₀ ≡ n → h₀ ≤ n → h ≤ n
+pub laid_count : (n h₀ h : ℕ) (hs hs₀ : List What) (os : List Out) → length hs₀ ≡ n → h₀ ≤ n → h ≤ n
     → Laid n hs h (take h₀ (outs_of hs₀) ++ os) → h - h₀ ≡ length os
 laid_count n h₀ h hs hs₀ os l p q w =
     let a : length (take h (outs_of hs)) ≡ h = length-take-le h (outs_of hs) (omega (arith, outs-length hs, w.wide)) in
@@ -82,27 +82,6 @@ known_by : (size : ℕ) (t : Table) (m : coded.State) (ms : List Mark) (a b : Bo
 known_by size t m ms a b n full k e f c =
     rw (e, f) (ap (λ (z : Bool). in_shape size t && z) (state_seen k n m (count_is t full ∙ sym c)))
 
--- the cells that were fetched
-cells_by : (vars : List Var) (x : Item) (o : Operands) (p : Places) (k : Cells) → o ≡ operands.operands_of x
-    → p ≡ operands.places_of o
-    → k ≡ operands.cells_of o (get_or vars p.a no_var) (get_or vars p.b no_var) (get_or vars p.c no_var)
-    (get_or vars p.d no_var)
-    → k ≡ operands.cells_of (operands.operands_of x) (get_or vars (operands.place_of (operands.operands_of x).a) no_var)
-    (get_or vars (operands.place_of (operands.operands_of x).b) no_var)
-    (get_or vars (operands.place_of (operands.operands_of x).c) no_var)
-    (get_or vars (operands.place_of (operands.operands_of x).d) no_var)
-cells_by vars x o p k e f g = g ∙ rw (f, e)
-
--- and the first two of a mate
-two_by : (vars : List Var) (x : Item) (o : Operands) (p : Places) (k : Cells) → length vars ≡ 32
-    → o ≡ operands.operands_of x → p ≡ operands.places_of o
-    → k ≡ operands.cells_of o (get_or vars p.a no_var) (get_or vars p.b no_var) (get_or vars p.a no_var)
-    (get_or vars p.b no_var)
-    → (operand_cell (cells_of vars) (operands.operands_of x).a ≡ k.a)
-    × (operand_cell (cells_of vars) (operands.operands_of x).b ≡ k.b)
-two_by vars x o p k h e f g =
-    rw (g, f, e) (reads_first vars h (operands.operands_of x), reads_second vars h (operands.operands_of x))
-
 -- ---- where a turn begins
 
 abbrev pub Known : Bool → ℕ → Table → State → Type 0
@@ -116,11 +95,11 @@ pub record Stage : Type 0 where
   pub count : ℕ
   pub tag : ℕ
   pub shaped : Bool
-  pub vars : List Var
+  pub vars : List Cell
   pub spot : Spot
   pub status : Status
 
-abbrev pub stage : ℕ → Table → List Mark → ℕ → ℕ → Bool → List Var → Spot → Status → Stage
+abbrev pub stage : ℕ → Table → List Mark → ℕ → ℕ → Bool → List Cell → Spot → Status → Stage
 stage size t ms n tag b vars s st = record {
   size = size;
   table = t;
@@ -172,39 +151,34 @@ turning_by {size} {t} {ms} {b} {n} {tag} m s ok survey full row wide count judge
 -- ---- the mates that are tried
 
 -- the item x where the run stands is read with its cells k, and its mates before j are tried
-pub record Trying (g : Stage) (c : Control) (o : Offer) (x : Item) (k : Cells) (found : Tried) (j : ℕ) : Type 0 where
+pub record Trying (g : Stage) (c : Control) (o : Offer) (x : Item) (k : Cells) (found : Option Chosen) (j : ℕ)
+    : Type 0 where
   pub head : Turning g
   pub item : x ≡ (get_or g.table.items (least g.spot.at 127) no_slot).item
-  pub cells : k
-      ≡ operands.cells_of (operands.operands_of x) (get_or g.vars (operands.place_of (operands.operands_of x).a) no_var)
-      (get_or g.vars (operands.place_of (operands.operands_of x).b) no_var)
-      (get_or g.vars (operands.place_of (operands.operands_of x).c) no_var)
-      (get_or g.vars (operands.place_of (operands.operands_of x).d) no_var)
+  pub cells : k ≡ cells_at x g.vars
   pub same : tried_by found (mates (items_of g.table) (cells_of g.vars) g.spot.at j)
       ≡ tried_by (effects.try_first x k g.spot.at)
       (mates (items_of g.table) (cells_of g.vars) g.spot.at g.spot.at)
 
-abbrev pub stage_of : {g : Stage} {c : Control} {o : Offer} {x : Item} {k : Cells} {found : Tried} {j : ℕ}
+abbrev pub stage_of : {g : Stage} {c : Control} {o : Offer} {x : Item} {k : Cells} {found : Option Chosen} {j : ℕ}
     → Trying g c o x k found j
     → Stage
 stage_of {g} w = g
 
-pub trying_starts : {g : Stage} {c : Control} {o : Offer} {here : ℕ} {ops : Operands} {l : Places} {k : Cells}
-    {found : Tried} → Turning g → here ≡ least g.spot.at 127
-    → ops ≡ operands.operands_of (get_or g.table.items here no_slot).item → l ≡ operands.places_of ops
-    → k ≡ operands.cells_of ops (get_or g.vars l.a no_var) (get_or g.vars l.b no_var)
-    (get_or g.vars l.c no_var) (get_or g.vars l.d no_var)
+pub trying_starts : {g : Stage} {c : Control} {o : Offer} {here : ℕ} {k : Cells}
+    {found : Option Chosen} → Turning g → here ≡ least g.spot.at 127
+    → k ≡ cells_at (get_or g.table.items here no_slot).item g.vars
     → found ≡ effects.try_first (get_or g.table.items here no_slot).item k g.spot.at
     → Trying g c o (get_or g.table.items here no_slot).item k found g.spot.at
-trying_starts {g} {c} {o} {here} {ops} {l} {k} {found} w h e f q r = record {
+trying_starts {g} {c} {o} {here} {k} {found} w h q r = record {
   head = w;
   item = ap (λ (n : ℕ). (get_or g.table.items n no_slot).item) h;
-  cells = cells_by g.vars (get_or g.table.items here no_slot).item ops l k e f q;
+  cells = q;
   same =
-      ap (λ (z : Tried). tried_by z (mates (items_of g.table) (cells_of g.vars) g.spot.at g.spot.at)) r;
+      ap (λ (z : Option Chosen). tried_by z (mates (items_of g.table) (cells_of g.vars) g.spot.at g.spot.at)) r;
 }
 
-module _ {g : Stage} {c : Control} {o : Offer} {x : Item} {k : Cells} {found : Tried} {j : ℕ}
+module _ {g : Stage} {c : Control} {o : Offer} {x : Item} {k : Cells} {found : Option Chosen} {j : ℕ}
     (w : Trying g c o x k found j) {b : Bool} (on : b ≡ effects.tries_on found j g.count) where
   pub mate_below : b ≡ true → (j < g.count) × (j < 128)
   mate_below y =
@@ -212,16 +186,14 @@ module _ {g : Stage} {c : Control} {o : Offer} {x : Item} {k : Cells} {found : T
       (q, omega (arith, q, w.head.count, least_most g.table.count 128))
 
   -- one turn of the loop: the mate at j is read and tried
-  pub trying_on : {ops : Operands} {l : Places} {k' : Cells} {found' : Tried} → b ≡ true
-      → ops ≡ operands.operands_of (get_or g.table.items j no_slot).item → l ≡ operands.places_of ops
-      → k' ≡ operands.cells_of ops (get_or g.vars l.a no_var) (get_or g.vars l.b no_var)
-      (get_or g.vars l.a no_var) (get_or g.vars l.b no_var)
+  pub trying_on : {k' : Cells} {found' : Option Chosen} → b ≡ true
+      → k' ≡ cells_at (get_or g.table.items j no_slot).item g.vars
       → found' ≡ tried_in g.marks (get_or g.table.items j no_slot).item k' g.spot.at j
       → Trying g c o x k found' (j + 1)
-  trying_on {ops} {l} {k'} {found'} y e f q tried =
+  trying_on {k'} {found'} y q tried =
       let below : j < length (items_of g.table) =
       rw (count_is g.table w.head.full, ← w.head.count) (mate_below y).0 in
-      let two = two_by g.vars (get_or g.table.items j no_slot).item ops l k' w.head.row e f q in
+      let mate = operands.operands_of (get_or g.table.items j no_slot).item in
       record {
         head = w.head;
         item = w.item;
@@ -232,7 +204,8 @@ module _ {g : Stage} {c : Control} {o : Offer} {x : Item} {k : Cells} {found : T
             (mates (items_of g.table) (cells_of g.vars) g.spot.at g.spot.at))
             (goes_on found j g.count (sym on ∙ y)).0 below
             (λ r. rw tried (tried_seen w.head.marked (get_or g.table.items j no_slot).item k' g.spot.at j
-            (cells_of g.vars) r (item_here g.table w.head.full j below) (mate_below y).1 two.0 two.1))
+            (cells_of g.vars) r (item_here g.table w.head.full j below) (mate_below y).1
+            (rw q (reads_first g.vars w.head.row mate)) (rw q (reads_second g.vars w.head.row mate))))
             w.same;
       }
 
@@ -244,13 +217,13 @@ pub record Effected (g : Stage) (c : Control) (o : Offer) (e : Effect) : Type 0 
   pub is : step_of (leave_outs (items_of g.table) (open_at g.spot)) (cells_of g.vars) e ≡ step_at g c o
   pub deep : e.leaves ≡ true → g.spot.depth ≤ 8
 
-abbrev pub EffectedBy : {g : Stage} {c : Control} {o : Offer} {x : Item} {k : Cells} {found : Tried} {j : ℕ}
+abbrev pub EffectedBy : {g : Stage} {c : Control} {o : Offer} {x : Item} {k : Cells} {found : Option Chosen} {j : ℕ}
     → Trying g c o x k found j → Effect
     → Type 0
 EffectedBy {g} {c} {o} w e = Effected g c o e
 
 -- no mate is left to try, and the marks around are known
-module _ {g : Stage} {c : Control} {o : Offer} {x : Item} {k : Cells} {found : Tried} {j : ℕ}
+module _ {g : Stage} {c : Control} {o : Offer} {x : Item} {k : Cells} {found : Option Chosen} {j : ℕ}
     (w : Trying g c o x k found j) {b : Bool} (on : b ≡ effects.tries_on found j g.count) (ended : b ≡ false)
     {to : Chosen} (chosen : to ≡ effects.chosen_by found) (a : Around)
     (around : a ≡ around_in g.marks g.spot x) where

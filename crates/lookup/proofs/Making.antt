@@ -9,8 +9,8 @@ use Rattle.state.specs.State.{Step, Vars}
 use Rattle.state.specs.Meaning.{answer_of, outs_of, cells_of}
 use Rattle.state.specs.declared.Control.{Control}
 use Rattle.state.specs.declared.Offer.{Offer}
-use Rattle.state.specs.declared.Thing.{Thing}
-use Rattle.state.specs.declared.Var.{Var}
+use Rattle.state.specs.declared.What.{What}
+use Rattle.state.specs.State.{Cell}
 use Rattle.effect.specs.Code as effects
 use Rattle.effect.specs.declared.Effect.{Effect}
 use Rattle.steps.specs.Code.{state_with}
@@ -24,7 +24,7 @@ unasked c κs = κs
 
 -- what a turn makes that is the step s: an answer, the names after it, and the things hs behind those before
 pub record Made
-    (s : Step) (n : ℕ) (hs₀ : List Thing) (h₀ : ℕ) (e : Effect) (vars : List Var) (hs : List Thing) (h : ℕ)
+    (s : Step) (n : ℕ) (hs₀ : List What) (h₀ : ℕ) (e : Effect) (vars : List Cell) (hs : List What) (h : ℕ)
     : Type 0 where
   pub answer : answer_of e.answer ≡ s.answer
   pub next : state_with (cells_of vars) e.spot e.status ≡ s.next
@@ -33,8 +33,8 @@ pub record Made
   pub row : length vars ≡ 32
 
 -- the effect is made, the names are written, and no box is left over
-pub made : {g : Stage} {c : Control} {o : Offer} {e : Effect} {vars : List Var} {n : ℕ} {hs₀ : List Thing} {h₀ : ℕ}
-    {hs₂ : List Thing} {h₂ k₀ : ℕ} {hs : List Thing} {h k : ℕ} → Effected g c o e → RowWritten g.vars e vars
+pub made : {g : Stage} {c : Control} {o : Offer} {e : Effect} {vars : List Cell} {n : ℕ} {hs₀ : List What} {h₀ : ℕ}
+    {hs₂ : List What} {h₂ k₀ : ℕ} {hs : List What} {h k : ℕ} → Effected g c o e → RowWritten g.vars e vars
     → Begun n hs₀ h₀ e hs₂ h₂ → k₀ ≡ effects.boxes_left e.leaves g.spot.depth (h₂ - h₀)
     → Leaves n g.marks g.spot.boxes hs₂ h₂ k₀ h₀ hs h k → k ≤ 0
     → Made (step_at g c o) n hs₀ h₀ e vars hs h

@@ -15,16 +15,21 @@ use Rattle.table.proofs.Items.{next_item}
 use Rattle.mates.specs.declared.Mark.{Mark}
 use Rattle.mates.specs.declared.Marks.{Marks}
 use Rattle.mates.specs.declared.Role.{Role}
-use Rattle.mates.specs.Code.{Marked, role_of, roles_of, marks_of}
-use Rattle.mates.proofs.Roles.{roles_more}
+use Rattle.mates.specs.Code.{Marked, role_of, roles_of, marks_of, tag_in}
+use Rattle.mates.proofs.Roles.{roles_more, length-roles}
 use Rattle.mates.proofs.Scanned.{marked}
 use Rattle.steps.proofs.Lookups.{count_is, items_few, item_here}
-use Rattle.lookup.specs.Lookup.{sizes_ok}
+use Rattle.lookup.specs.declared.Survey.{Survey}
+use Rattle.lookup.specs.Lookup.{sizes_ok, Surveys}
 
 -- the marks are the table's, and b says whether it is in shape for a script of so many bytes
 pub record Surveyed (size : ℕ) (t : Table) (ms : List Mark) (b : Bool) : Type 0 where
   pub marks : Marked (items_of t) ms
   pub shaped : b ≡ in_shape size t
+
+same_marks : (rs rs' : List Role) (n : ℕ) → take n rs ≡ take n rs' → marks_of rs n ≡ marks_of rs' n
+unfolding marks_of
+same_marks rs rs' n e = rw e
 
 -- j of n items are passed
 pub record Passed (size : ℕ) (t : Table) (n : ℕ) (rs : List Role) (b : Bool) (j : ℕ) : Type 0 where
@@ -69,14 +74,31 @@ module _ {size : ℕ} {t : Table} {n : ℕ} {rs : List Role} {b : Bool} {j : ℕ
       }
 
   -- no item is left
-  pub pass_ends : {ms : Marks} → n ≤ j → ms ≡ marks_of rs n → Surveyed size t ms.at b
-  pass_ends q e =
+  pub pass_ends : {ms : Marks} {tag : ℕ} → n ≤ j → ms ≡ marks_of rs n → tag ≡ tag_in ms.at n
+      → Surveys size t (record { count = n; marks = ms; tag = tag; sound = b })
+  pass_ends q e f =
       let all : j ≡ n = omega (arith, w.within) in
+      let whole : take n (items_of t) ≡ items_of t = take_all n (items_of t) (omega (arith, counted)) in
+      let whole_roles : take n (roles_of (items_of t)) ≡ roles_of (items_of t) =
+      take_all n (roles_of (items_of t)) (omega (arith, counted, length-roles (items_of t))) in
       record {
+        count = most;
         marks =
-            rw e (marked (items_of t) rs n (items_few t full)
-            (rw all at w.roles ∙ ap roles_of (take_all n (items_of t) (omega (arith, counted)))));
-        shaped =
+            e ∙ same_marks rs (roles_of (items_of t)) n
+            (rw all at w.roles ∙ ap roles_of whole ∙ sym whole_roles);
+        tag = f;
+        sound =
             sym (and-true b)
             ∙ rw (drop_of_length-le (items_of t) {i = j} (omega (arith, counted))) at w.shape;
       }
+
+-- a survey's marks are those of the table's items
+pub surveyed : {size : ℕ} {t : Table} {r : Survey} → Surveys size t r → length t.items ≡ 128
+    → Surveyed size t r.marks.at r.sound
+surveyed {size} {t} {r} s full = record {
+  marks =
+      rw s.marks (marked (items_of t) (roles_of (items_of t)) r.count (items_few t full)
+      (take_all r.count (roles_of (items_of t))
+      (omega (arith, s.count, count_is t full, length-roles (items_of t)))));
+  shaped = s.sound;
+}

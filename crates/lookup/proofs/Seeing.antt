@@ -1,4 +1,5 @@
 -- What is read from the marks, in 01's words, of the text whose marks they are.
+use Rattle.std.proofs.Common.{None}
 use Prim.Native.Nat.{ℕ, zero, suc, ◌≤◌, ◌<◌}
 use mathlib.Core.Path.{◌≡◌, refl, sym, ap, ◌∙◌}
 use mathlib.Core.Bool.{Bool, true, false, ◌||◌, cond, false≢true}
@@ -20,10 +21,9 @@ use Rattle.state.specs.State.{Vars, leaves, outer}
 use Rattle.state.specs.Meaning.{state_of, tops}
 use Rattle.state.specs.declared.State as coded
 use Rattle.state.proofs.Boxes.{tops-length}
-use Rattle.operands.specs.declared.Cells.{Cells}
+use Rattle.operands.specs.Code.{Cells}
 use Rattle.operands.specs.Code as operands
 use Rattle.effect.specs.declared.Spot.{Spot}
-use Rattle.effect.specs.declared.Tried.TheVariants as Tried
 use Rattle.effect.specs.Code as effects
 use Rattle.steps.specs.Machine as rules
 use Rattle.steps.specs.Machine.{any_open, unwind, leave_outs, opens_ok, state_ok}
@@ -187,6 +187,6 @@ module _ {xs : List Item} {ms : List Mark} (k : Marked xs ms) where
   tried_seen x c p j vs r e h f g =
       rw (belongs_seen xs ms k p j, e) (go (belongs p x (boxes_at xs j)))
     where
-      go : (b : Bool) → tried_by (cond b (effects.try_mate x c j) Tried.Next) r ≡ cond b (rules.tried vs x j r) r
+      go : (b : Bool) → tried_by (cond b (effects.try_mate x c j) None) r ≡ cond b (rules.tried vs x j r) r
       go true = tried_is vs c j h x r f g
       go false = refl

@@ -1,9 +1,11 @@
 -- A walk over the open boxes, from the innermost outwards.
-use Prim.Native.Nat.{ℕ, ◌-◌, ◌≤◌, ◌<◌}
-use mathlib.Core.Path.{◌≡◌, ap, ◌∙◌}
+use Prim.Native.Nat.{ℕ, ◌-◌, ◌≤◌, ◌<◌, min}
+use mathlib.Core.Path.{◌≡◌, refl, ap, ◌∙◌}
 use mathlib.Core.List.{List, [], ◌∷◌}
 use native.Mathlib.Omega.{arith}
 use lib.ListN.{get_or}
+use Rattle.laws.specs.Least.{least}
+use Rattle.laws.proofs.Least.{least_most, least_min}
 use Rattle.state.specs.Meaning.{tops}
 use Rattle.state.proofs.Boxes.{tops_top, at_zero}
 
@@ -13,8 +15,12 @@ pub record Walk {X : Type 0} (f : List ℕ → X) (l : List ℕ) (n k : ℕ) : T
   pub same : f (tops l n) ≡ f (tops l k)
 
 module _ {X : Type 0} {f : List ℕ → X} {l : List ℕ} where
-  pub walk_starts : (n k : ℕ) → k ≤ 8 → n ≡ k → Walk f l n k
-  walk_starts n k h e = record { within = h; same = ap (λ (j : ℕ). f (tops l j)) e }
+  pub walk_starts : (n : ℕ) → n ≤ 8 → Walk f l n n
+  walk_starts n h = record { within = h; same = refl }
+
+  -- the boxes of a row of eight
+  pub walk_row : (d k : ℕ) → k ≡ min d 8 → Walk f l (least d 8) k
+  walk_row d k e = rw (e, least_min) (walk_starts (least d 8) (least_most d 8))
 
   module _ {n k : ℕ} (w : Walk f l n k) where
     -- the innermost box that is left tells what f says

@@ -1,21 +1,28 @@
 -- What only the code's shape needs: what is looked up for one step, as the marks alone say it.
-use Rattle.std.specs.Prelude.{ℕ, Bool, true, false, not, ◌&&◌, ◌||◌, cond, List, [], ◌∷◌, eqb, ltb, leb, length}
+use Rattle.std.specs.Prelude.{Option, Some, None}
+use Rattle.std.specs.Prelude.{ℕ, suc, ◌+◌, ◌≡◌, Bool, true, false, not, ◌&&◌, ◌||◌, cond, List, [], ◌∷◌, eqb, ltb}
+use Rattle.std.specs.Prelude.{leb, length, set}
 use Rattle.laws.specs.Least.{least}
 use Rattle.table.specs.declared.Item.{Item}
+use Rattle.table.specs.declared.Table.{Table}
 use Rattle.table.specs.Item.{is_loop, is_sweep}
+use Rattle.table.specs.Shape.{items_of, in_shape}
 use Rattle.mates.specs.declared.Mark.{Mark}
 use Rattle.mates.specs.Mates.{past}
-use Rattle.mates.specs.Code.{always, opens_at, belongs_in, close_in}
+use Rattle.mates.specs.Code.{roles_of, marks_of, always, opens_at, belongs_in, close_in, tag_in}
 use Rattle.state.specs.declared.LoopSort.TheVariants as LoopSort
 use Rattle.state.specs.declared.What.{What}
-use Rattle.state.specs.State.{cells_ok}
+use Rattle.state.specs.State.{Cell, cell_at, cells_ok}
 use Rattle.state.specs.Meaning.{cells_of, tops}
 use Rattle.state.specs.declared.State as coded
-use Rattle.operands.specs.declared.Cells.{Cells}
+use Rattle.operands.specs.Code.{Cells}
+use Rattle.operands.specs.Code as operands
 use Rattle.effect.specs.declared.Around.{Around}
+use Rattle.effect.specs.declared.Chosen.{Chosen}
 use Rattle.effect.specs.declared.Spot.{Spot}
-use Rattle.effect.specs.declared.Tried.{Tried}
 use Rattle.effect.specs.Code.{try_mate}
+use Rattle.lookup.specs.declared.Survey.{Survey}
+use Rattle.steps.specs.Code.{count_of}
 
 -- ---- the state's shape
 
@@ -36,7 +43,19 @@ state_in ms n m =
 abbrev pub sizes_ok : ℕ → ℕ → Bool
 sizes_ok items names = leb items 128 && leb names 32
 
+-- what is known of a table before any step
+pub record Surveys (size : ℕ) (t : Table) (r : Survey) : Type 0 where
+  pub count : r.count ≡ least t.count 128
+  pub marks : r.marks ≡ marks_of (roles_of (items_of t)) r.count
+  pub tag : r.tag ≡ tag_in r.marks.at r.count
+  pub sound : r.sound ≡ in_shape size t
+
 -- ---- where a run stands
+
+-- how many boxes are open up to one that was looked for, with it
+abbrev pub up_to : Option ℕ → ℕ
+up_to None = 0
+up_to (Some k) = suc k
 
 abbrev pub spot_of : coded.State → Spot
 spot_of m = record {
@@ -67,6 +86,18 @@ unfoldable pub leave_of : List Mark → ℕ → What
 leave_of ms p =
     cond (opens_at is_sweep ms p) (What.Leave LoopSort.Sweep)
     (cond (opens_at is_loop ms p) (What.Leave LoopSort.Loop) What.Nothing)
+
+-- what an item reads of the row of names
+abbrev pub cells_at : Item → List Cell → Cells
+cells_at x vars =
+    let o = operands.operands_of x in
+    operands.cells_of o (cell_at vars (operands.place_of o.a)) (cell_at vars (operands.place_of o.b))
+    (cell_at vars (operands.place_of o.c)) (cell_at vars (operands.place_of o.d))
+
+-- a thing is laid behind the n that stand in a row
+pub record Lays (things : List What) (n : ℕ) (w : What) (after : List What) (count : ℕ) : Type 0 where
+  pub laid : after ≡ set things n w
+  pub counted : count ≡ n + count_of w
 
 -- ---- around an item
 
@@ -118,5 +149,5 @@ unfoldable pub around_in : List Mark → Spot → Item → Around
 around_in ms s x = around_with ms (sweeps ms (held_in s)) s.at (held_in s) x
 
 -- the item x at j, where it belongs to the box that opens at p
-unfoldable pub tried_in : List Mark → Item → Cells → ℕ → ℕ → Tried
-tried_in ms x k p j = cond (belongs_in ms j p) (try_mate x k j) Tried.Next
+unfoldable pub tried_in : List Mark → Item → Cells → ℕ → ℕ → Option Chosen
+tried_in ms x k p j = cond (belongs_in ms j p) (try_mate x k j) None

@@ -1,46 +1,37 @@
-// What the marks say where a run stands.
+// What the marks say where a run stands. A struct of marks and spot would be made for the calls of this file alone.
 ghost use Rattle.std.specs.Prelude.{◌≡◌, ◌≤◌};
 ghost use Rattle.state.specs.Meaning.{tops};
 ghost use Rattle.lookup.specs.Lookup.{held_in, sweeps, to_loop, leave_of, alone, around_open, around_mark};
-ghost use Rattle.lookup.specs.Lookup.{around_break, around_in, tried_in};
+ghost use Rattle.lookup.specs.Lookup.{around_break, around_in, tried_in, up_to};
 
-use super::pieces;
-use effect::{Around, Spot, Tried};
+use effect::{Around, Chosen, Spot};
 use mates::Marks;
 use operands::Cells;
-use state::{LoopSort, What};
+use state::{BOXES, LoopSort, What};
 use table::Item;
-
-const BOXES: usize = 8;
 
 // Whether a measuring loop is open.
 fn any_sweep(marks: Marks, s: Spot) -> bool
     ensures { result ≡ sweeps marks.at (held_in s) }
 {
-    let mut k = pieces::at_most(s.depth, BOXES);
-    while 0 < k {
-        let p = s.boxes[k - 1];
-        if mates::sweep_at(marks, p) {
+    for k in (0..s.depth.min(BOXES)).rev() {
+        if mates::sweep_at(marks, s.boxes[k]) {
             return true;
         }
-        k -= 1;
     }
     false
 }
 
-// How many boxes are open up to the innermost open loop, with it.
-fn loop_depth(marks: Marks, s: Spot) -> usize
-    ensures { (result ≤ 8) × (to_loop marks.at (held_in s) ≡ tops s.boxes result) }
+// The place of the innermost open loop in the row of boxes.
+fn loop_depth(marks: Marks, s: Spot) -> Option<usize>
+    ensures { (up_to result ≤ 8) × (to_loop marks.at (held_in s) ≡ tops s.boxes (up_to result)) }
 {
-    let mut k = pieces::at_most(s.depth, BOXES);
-    while 0 < k {
-        let p = s.boxes[k - 1];
-        if mates::loop_at(marks, p) {
-            return k;
+    for k in (0..s.depth.min(BOXES)).rev() {
+        if mates::loop_at(marks, s.boxes[k]) {
+            return Some(k);
         }
-        k -= 1;
     }
-    0
+    None
 }
 
 // The mark that leaving the box at p hands out, where it is a loop's.
@@ -62,59 +53,54 @@ fn around_none(sweeping: bool, stray: bool) -> Around
     ensures { result ≡ alone sweeping stray }
 {
     Around {
-        sweeping: sweeping,
-        stray: stray,
+        sweeping,
+        stray,
         close: 0,
         sweep: false,
         outside: 0,
     }
 }
 
+#[tactic(auto, using(mates::proofs::Placed::behinds))]
 fn around_open(marks: Marks, sweeping: bool, s: Spot) -> Around
     ensures { result ≡ around_open marks.at sweeping s.at }
 {
     let close = mates::close_of(marks, s.at);
     Around {
-        sweeping: sweeping,
-        stray: close == 0,
-        close: close,
-        sweep: false,
-        outside: 0,
+        close: close.unwrap_or(0),
+        ..around_none(sweeping, close.is_none())
     }
 }
 
 // Around a branch or closing mark.
+#[tactic(auto, using(mates::proofs::Placed::behinds))]
 fn around_mark(marks: Marks, sweeping: bool, s: Spot) -> Around
     ensures { result ≡ around_mark marks.at sweeping s.at (held_in s) }
 {
-    let d = pieces::at_most(s.depth, BOXES);
+    let d = s.depth.min(BOXES);
     if d == 0 {
         return around_none(sweeping, true);
     }
     let p = s.boxes[d - 1];
     Around {
-        sweeping: sweeping,
-        stray: !mates::belongs_to(marks, s.at, p),
-        close: mates::close_of(marks, p),
+        close: mates::close_of(marks, p).unwrap_or(0),
         sweep: mates::sweep_at(marks, p),
-        outside: 0,
+        ..around_none(sweeping, !mates::belongs_to(marks, s.at, p))
     }
 }
 
+#[tactic(auto, using(mates::proofs::Placed::behinds))]
 fn around_break(marks: Marks, sweeping: bool, s: Spot) -> Around
     ensures { result ≡ around_break marks.at sweeping (to_loop marks.at (held_in s)) }
 {
-    let k = loop_depth(marks, s);
-    if k == 0 {
-        return around_none(sweeping, true);
-    }
-    let p = s.boxes[k - 1];
-    Around {
-        sweeping: sweeping,
-        stray: false,
-        close: mates::close_of(marks, p),
-        sweep: mates::sweep_at(marks, p),
-        outside: k - 1,
+    match loop_depth(marks, s) {
+        Some(k) => Around {
+            close: mates::close_of(marks, s.boxes[k]).unwrap_or(0),
+            sweep: mates::sweep_at(marks, s.boxes[k]),
+            outside: k,
+            ..around_none(sweeping, false)
+        },
+        None => around_none(sweeping, true),
     }
 }
 
@@ -125,23 +111,20 @@ pub fn around_of(marks: Marks, s: Spot, x: Item) -> Around
 {
     let sweeping = any_sweep(marks, s);
     match x {
-        Item::Act(_) => around_none(sweeping, false),
-        Item::Pack(_) => around_none(sweeping, false),
+        Item::Act(_) | Item::Pack(_) | Item::Tag => around_none(sweeping, false),
         Item::Open(_) => around_open(marks, sweeping, s),
-        Item::Branch(_) => around_mark(marks, sweeping, s),
-        Item::Close(_) => around_mark(marks, sweeping, s),
+        Item::Branch(_) | Item::Close(_) => around_mark(marks, sweeping, s),
         Item::Break => around_break(marks, sweeping, s),
-        Item::Tag => around_none(sweeping, false),
     }
 }
 
 // What the item x at j leads to, tried where it belongs to the box that opens at p.
 #[tactic(auto, unfolding(crate::specs::Lookup::tried_in))]
-pub fn try_at(marks: Marks, x: Item, k: Cells, p: usize, j: usize) -> Tried
+pub fn try_at(marks: Marks, x: Item, k: Cells, p: usize, j: usize) -> Option<Chosen>
     ensures { result ≡ tried_in marks.at x k p j }
 {
     if mates::belongs_to(marks, j, p) {
         return effect::try_mate(x, k, j);
     }
-    Tried::Next
+    None
 }

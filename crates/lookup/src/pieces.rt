@@ -1,27 +1,21 @@
 // The state's parts: where it stands, what is put together after steps, and how many there are of something.
-ghost use Rattle.std.specs.Prelude.{◌≡◌};
-ghost use Rattle.laws.specs.Least.{least};
-ghost use Rattle.steps.specs.Code.{count_of, LeftAs};
-ghost use Rattle.lookup.specs.Lookup.{spot_of};
+ghost use Rattle.std.specs.Prelude.{◌≡◌, ◌<◌, length};
+ghost use Rattle.steps.specs.Code.{count_of, wrote, LeftAs};
+ghost use Rattle.lookup.specs.Lookup.{spot_of, cells_at, Lays};
 
 use effect::Spot;
-use state::{State, Status, Var, What};
+use operands::{Cells, Four, Written};
+use state::{Cell, State, Status, What};
+use table::Item;
 
-// The lesser of the two.
-pub fn at_most(n: usize, most: usize) -> usize
-    ensures { result ≡ least n most }
-{
-    if n <= most { n } else { most }
-}
-
-// Where the run of a state stands.
+// Where the run of a state stands. It is no `From`, which would have to stand in `effect`, away from its way back.
 pub fn spot_of(m: State) -> Spot
     ensures { result ≡ spot_of m }
 {
     let boxes = m.boxes;
     Spot {
         at: m.at,
-        boxes: boxes,
+        boxes,
         depth: m.depth,
         pending: m.pending,
         skip: m.skip,
@@ -30,7 +24,7 @@ pub fn spot_of(m: State) -> Spot
 }
 
 // The state after steps: where none of them took an item, the one before them with the flags that controls set.
-pub fn state_after(stayed: bool, before: State, s: Spot, status: Status, vars: [Var; 32]) -> State
+pub fn state_after(stayed: bool, before: State, s: Spot, status: Status, vars: [Cell; 32]) -> State
     ensures { LeftAs stayed before s status vars result }
 {
     if stayed {
@@ -39,13 +33,13 @@ pub fn state_after(stayed: bool, before: State, s: Spot, status: Status, vars: [
     let boxes = s.boxes;
     state::neat_state(State {
         at: s.at,
-        boxes: boxes,
+        boxes,
         depth: s.depth,
-        vars: vars,
+        vars,
         pending: s.pending,
         skip: s.skip,
         packed: s.packed,
-        status: status,
+        status,
     })
 }
 
@@ -55,12 +49,39 @@ pub fn things_in(w: What) -> usize
 {
     match w {
         What::Nothing => 0,
-        What::Enter(_) => 1,
-        What::Leave(_) => 1,
-        What::Start => 1,
-        What::Part(_, _) => 1,
-        What::End => 1,
-        What::Text(_) => 1,
-        What::Order(_) => 1,
+        _ => 1,
     }
+}
+
+// What an item reads of the row of names.
+pub fn cells_at(item: Item, vars: &[Cell; 32]) -> Cells
+    ensures { result ≡ cells_at item vars.now }
+{
+    let operands = operands::operands_of(item);
+    let places = operands::places_of(operands);
+    let stand = Four {
+        a: vars[places.a],
+        b: vars[places.b],
+        c: vars[places.c],
+        d: vars[places.d],
+    };
+    operands::cells_of(operands, stand)
+}
+
+// What is written goes into the row of names. A place past the row writes back what stands at its first place, so that
+// nothing branches.
+pub fn put(vars: &mut [Cell; 32], w: Written)
+    ensures { vars.new ≡ wrote w vars.old }
+{
+    let p = operands::write_place(w);
+    vars[p] = operands::write_over(w, vars[p]);
+}
+
+// Lays a thing behind the n that stand in the row, and says how many stand there then.
+pub fn lay(things: &mut [What], n: usize, w: What) -> usize
+    requires { n < length things.old }
+    ensures { Lays things.old n w things.new result }
+{
+    things[n] = w;
+    n + things_in(w)
 }

@@ -1,48 +1,36 @@
 // The state's shape, and the sizes that are allowed.
 ghost use Rattle.std.specs.Prelude.{◌≡◌, ◌≤◌};
 ghost use Rattle.state.specs.Meaning.{tops};
-ghost use Rattle.lookup.specs.Lookup.{box_in, opens_in, state_in, sizes_ok};
+ghost use Rattle.lookup.specs.Lookup.{box_in, opens_in, state_in, sizes_ok, Surveys};
 
-use mates::Marks;
-use state::State;
-
-const BOXES: usize = 8;
-
-const ITEMS: usize = 128;
-
-const NAMES: usize = 32;
+use super::Survey;
+use mates::{Marks, Role};
+use state::{BOXES, State};
+use table::{ITEMS, NAMES, Table};
 
 // Whether a table may have so many items and names.
 pub fn sizes_ok(items: usize, names: usize) -> bool
     ensures { result ≡ sizes_ok items names }
 {
-    (items <= ITEMS) & (names <= NAMES)
+    items <= ITEMS && names <= NAMES
 }
 
 // A box at an opening item, one of n, with a closing mate.
+#[tactic(auto, using(mates::proofs::Placed::behinds))]
 fn box_ok(marks: Marks, n: usize, p: usize) -> bool
     ensures { result ≡ box_in marks.at n p }
 {
-    if n <= p {
-        return false;
-    }
-    if !mates::open_at(marks, p) {
-        return false;
-    }
-    mates::close_of(marks, p) != 0
+    p < n && mates::open_at(marks, p) && mates::close_of(marks, p).is_some()
 }
 
 fn opens_ok(marks: Marks, n: usize, m: State) -> bool
     requires { m.depth ≤ 8 }
     ensures { result ≡ opens_in marks.at n (tops m.boxes m.depth) }
 {
-    let mut k = m.depth;
-    while 0 < k {
-        let p = m.boxes[k - 1];
-        if !box_ok(marks, n, p) {
+    for k in (0..m.depth).rev() {
+        if !box_ok(marks, n, m.boxes[k]) {
             return false;
         }
-        k -= 1;
     }
     true
 }
@@ -52,16 +40,26 @@ fn opens_ok(marks: Marks, n: usize, m: State) -> bool
 pub fn state_ok(marks: Marks, n: usize, m: State) -> bool
     ensures { result ≡ state_in marks.at n m }
 {
-    let at = m.at;
-    let d = m.depth;
-    if n < at {
-        return false;
+    m.at <= n && m.depth <= BOXES && opens_ok(marks, n, m) && state::cells_ok(m)
+}
+
+// One pass over a table's items, for a script of so many bytes.
+pub fn survey_of(size: usize, table: &Table) -> Survey
+    ensures { Surveys size table.now result }
+{
+    let count = table.count.min(ITEMS);
+    let mut sound = sizes_ok(table.count, table.names);
+    let mut roles = [Role::Tag; ITEMS];
+    for m in 0..count {
+        let x = table.items[m].item;
+        roles[m] = mates::role_of(x);
+        sound &= table::item_ok(table.names, size, x);
     }
-    if BOXES < d {
-        return false;
+    let marks = mates::marks_of(roles, count);
+    Survey {
+        count,
+        marks,
+        tag: mates::first_tag(marks, count),
+        sound,
     }
-    if !opens_ok(marks, n, m) {
-        return false;
-    }
-    state::cells_ok(m)
 }

@@ -13,8 +13,8 @@ use Rattle.state.specs.declared.Control.{Control}
 use Rattle.state.specs.declared.Offer.{Offer}
 use Rattle.state.specs.declared.Status.{Status}
 use Rattle.state.specs.declared.Stepped.{Stepped}
-use Rattle.state.specs.declared.Thing.{Thing}
-use Rattle.state.specs.declared.Var.{Var}
+use Rattle.state.specs.declared.What.{What}
+use Rattle.state.specs.State.{Cell}
 use Rattle.state.specs.declared.State as coded
 use Rattle.state.proofs.Tight.{same_run}
 use Rattle.effect.specs.declared.Effect.{Effect}
@@ -55,8 +55,8 @@ module _ (size : ℕ) (table : Table) (state : coded.State) (c : Control) (o : O
 -- ---- one step
 
 module _ (size : ℕ) (t : Table) (b : Bool) (m₀ : coded.State) (m : State) (c : Control) (o : Offer) (a : Answer)
-    (hs : List Thing) (h : ℕ)
-    (vars : List Var) (spot : Spot) (status : Status) (last : coded.State)
+    (hs : List What) (h : ℕ)
+    (vars : List Cell) (spot : Spot) (status : Status) (last : coded.State)
     (known : Known b size t (state_of m₀)) (start : m ≡ state_of m₀) where
   abbrev one : Step
   one = step_known b (items_of t) m c o
@@ -97,8 +97,8 @@ pub record From (T : Type 0) (m : State) (m₀ : coded.State) : Type 0 where
   pub trying : T
   pub stands : m ≡ state_of m₀
 
-pub one_turn : {g : Stage} {c : Control} {o : Offer} {e : Effect} {m₀ : coded.State} {hs₀ : List Thing}
-    {vars : List Var} {hs : List Thing} {h : ℕ} {b : Bool} {last : coded.State} → Turning g → run_at g ≡ state_of m₀
+pub one_turn : {g : Stage} {c : Control} {o : Offer} {e : Effect} {m₀ : coded.State} {hs₀ : List What}
+    {vars : List Cell} {hs : List What} {h : ℕ} {b : Bool} {last : coded.State} → Turning g → run_at g ≡ state_of m₀
     → Made (step_at g c o) 8 hs₀ 0 e vars hs h → b ≡ stays (status_of g.status) (answer_of e.answer)
     → LeftAs b m₀ e.spot e.status vars last
     → Exact g.size g.table m₀ c o (record { state = last; answer = e.answer; things = hs; count = h })

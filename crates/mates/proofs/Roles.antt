@@ -9,16 +9,13 @@ use Rattle.table.specs.declared.Item.{Item}
 use Rattle.table.specs.declared.Sort.{Sort}
 use Rattle.table.specs.Item.{fits}
 use Rattle.table.specs.declared.Close.TheVariants as Close
-use Rattle.table.specs.declared.Head.TheVariants as Head
 use Rattle.mates.specs.Mates.{Open, scan}
 use Rattle.mates.specs.Code.{Role, role_of, roles_of, fits_role, scan_role}
 
 pub fits_role_lem : (x : Item) (s : Sort) → fits x s ≡ fits_role (role_of x) s
 fits_role_lem (Item.Act a) s = refl
 fits_role_lem (Item.Pack p) s = refl
-fits_role_lem (Item.Open (Head.If c)) s = refl
-fits_role_lem (Item.Open (Head.Loop c)) s = refl
-fits_role_lem (Item.Open (Head.Sweep w)) s = refl
+fits_role_lem (Item.Open h) s = refl
 fits_role_lem (Item.Branch b) s = refl
 fits_role_lem (Item.Close Close.EndIf) s = refl
 fits_role_lem (Item.Close Close.EndLoop) s = refl
@@ -28,13 +25,10 @@ fits_role_lem Item.Tag s = refl
 pub scan_role_lem : (j : ℕ) (x : Item) (st : List Open) → scan j x st ≡ scan_role j (role_of x) st
 scan_role_lem j (Item.Act a) st = refl
 scan_role_lem j (Item.Pack p) st = refl
-scan_role_lem j (Item.Open (Head.If c)) st = refl
-scan_role_lem j (Item.Open (Head.Loop c)) st = refl
-scan_role_lem j (Item.Open (Head.Sweep w)) st = refl
+scan_role_lem j (Item.Open h) st = refl
 scan_role_lem j (Item.Branch b) st = refl
-scan_role_lem j (Item.Close Close.EndIf) [] = refl
+scan_role_lem j (Item.Close e) [] = refl
 scan_role_lem j (Item.Close Close.EndIf) (o ∷ st) = refl
-scan_role_lem j (Item.Close Close.EndLoop) [] = refl
 scan_role_lem j (Item.Close Close.EndLoop) (o ∷ st) = refl
 scan_role_lem j Item.Break st = refl
 scan_role_lem j Item.Tag st = refl

@@ -1,5 +1,6 @@
 -- What an item reads of the row of names and what is written into it, as the code makes it: definitions that compute,
 -- one for each function. What they have to do with 01 is shown in the crate `steps`.
+use Rattle.std.specs.Prelude.{Option, Some, None}
 use Rattle.std.specs.Prelude.{ℕ, cond, ltb, pos}
 use Rattle.value.specs.declared.Value.TheVariants as Value
 use Rattle.table.specs.declared.Act.{Act}
@@ -10,12 +11,22 @@ use Rattle.table.specs.declared.Item.{Item}
 use Rattle.table.specs.declared.Operand.{Operand}
 use Rattle.table.specs.declared.Pack.{Pack}
 use Rattle.table.specs.declared.Sweep.{Sweep}
-use Rattle.state.specs.declared.Cell.{Cell}
-use Rattle.state.specs.declared.Var.{Var}
-use Rattle.operands.specs.declared.Cells.{Cells}
-use Rattle.operands.specs.declared.Operands.{Operands}
-use Rattle.operands.specs.declared.Places.{Places}
-use Rattle.operands.specs.declared.Written.{Written}
+use Rattle.state.specs.State.{Cell}
+use Rattle.operands.specs.declared.Four.{Four}
+
+-- the operands that an item reads, where they stand in the row of names, and what they hold
+abbrev pub Operands : Type 0
+Operands = Four Operand
+
+abbrev pub Places : Type 0
+Places = Four ℕ
+
+abbrev pub Cells : Type 0
+Cells = Four Cell
+
+-- a name that is written, and what it then holds
+abbrev pub Written : Type 0
+Written = Option (ℕ × Cell)
 
 -- ---- src/reads.rt: what an item reads; past the last operand a literal 0
 
@@ -88,25 +99,25 @@ place_of (Operand.Literal l) = 0
 abbrev pub places_of : Operands → Places
 places_of o = record { a = place_of o.a; b = place_of o.b; c = place_of o.c; d = place_of o.d }
 
-abbrev pub cell_in : ℕ → Var → Cell
-cell_in n v = cond (ltb n 32) v.cell Cell.Unwritten
+abbrev pub cell_in : ℕ → Cell → Cell
+cell_in n v = cond (ltb n 32) v None
 
-abbrev pub cell_of : Operand → Var → Cell
+abbrev pub cell_of : Operand → Cell → Cell
 cell_of (Operand.Name n) v = cell_in n v
-cell_of (Operand.Literal l) v = Cell.Holds l 0
+cell_of (Operand.Literal l) v = Some (l, 0)
 
-abbrev pub cells_of : Operands → Var → Var → Var → Var → Cells
+abbrev pub cells_of : Operands → Cell → Cell → Cell → Cell → Cells
 cells_of o x y z u = record { a = cell_of o.a x; b = cell_of o.b y; c = cell_of o.c z; d = cell_of o.d u }
 
 -- ---- src/writes.rt: what is written
 
 abbrev pub write_place : Written → ℕ
-write_place Written.Nothing = 0
-write_place (Written.Put n c) = in_row n
+write_place None = 0
+write_place (Some (n, c)) = in_row n
 
-abbrev pub put_in : ℕ → Cell → Var → Var
-put_in n c v = cond (ltb n 32) (record { cell = c }) v
+abbrev pub put_in : ℕ → Cell → Cell → Cell
+put_in n c v = cond (ltb n 32) (c) v
 
-abbrev pub write_over : Written → Var → Var
-write_over Written.Nothing v = v
-write_over (Written.Put n c) v = put_in n c v
+abbrev pub write_over : Written → Cell → Cell
+write_over None v = v
+write_over (Some (n, c)) v = put_in n c v

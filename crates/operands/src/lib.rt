@@ -10,37 +10,24 @@ mod writes;
 pub use reads::{cells_of, operands_of, places_of};
 pub use writes::{write_over, write_place};
 
-// The most names.
-const NAMES: usize = 32;
-
-// The operands that an item reads, a literal past the last; where they stand in the row of names; and what they hold.
+// One of each operand that an item may read.
 #[derive(Clone, Copy)]
-pub struct Operands {
-    pub a: Operand,
-    pub b: Operand,
-    pub c: Operand,
-    pub d: Operand,
+pub struct Four<T> {
+    pub a: T,
+    pub b: T,
+    pub c: T,
+    pub d: T,
 }
 
-#[derive(Clone, Copy)]
-pub struct Places {
-    pub a: usize,
-    pub b: usize,
-    pub c: usize,
-    pub d: usize,
-}
+// The operands that an item reads, a literal past the last.
+pub type Operands = Four<Operand>;
 
-#[derive(Clone, Copy)]
-pub struct Cells {
-    pub a: Cell,
-    pub b: Cell,
-    pub c: Cell,
-    pub d: Cell,
-}
+// Where they stand in the row of names. What is no name stands at the first place, so that four cells are read, and two
+// written, with no branch.
+pub type Places = Four<usize>;
+
+// What they hold.
+pub type Cells = Four<Cell>;
 
 // A name that is written.
-#[derive(Clone, Copy)]
-pub enum Written {
-    Nothing,
-    Put(usize, Cell),
-}
+pub type Written = Option<(usize, Cell)>;

@@ -2,9 +2,9 @@
 ghost use Rattle.std.specs.Prelude.{◌≡◌};
 ghost use Rattle.operands.specs.Code as code;
 
-use super::{Cells, NAMES, Operands, Places};
-use state::{Cell, Var};
-use table::{Act, Branch, Condition, Head, Item, Operand, Pack, Sweep};
+use super::{Cells, Four, Operands, Places};
+use state::Cell;
+use table::{Act, Branch, Condition, Head, Item, NAMES, Operand, Pack, Sweep};
 use value::Value;
 
 fn no_operand() -> Operand
@@ -16,9 +16,9 @@ fn no_operand() -> Operand
 fn two_operands(a: Operand, b: Operand) -> Operands
     ensures { result ≡ code.two_operands a b }
 {
-    Operands {
-        a: a,
-        b: b,
+    Four {
+        a,
+        b,
         c: no_operand(),
         d: no_operand(),
     }
@@ -39,23 +39,17 @@ fn no_operands() -> Operands
 fn condition_operands(c: Condition) -> Operands
     ensures { result ≡ code.condition_operands c }
 {
-    let left = c.left;
-    let right = c.right;
-    two_operands(left, right)
+    two_operands(c.left, c.right)
 }
 
 fn sweep_operands(w: Sweep) -> Operands
     ensures { result ≡ code.sweep_operands w }
 {
-    let a = w.begin;
-    let b = w.end;
-    let c = w.step;
-    let d = w.rate;
-    Operands {
-        a: a,
-        b: b,
-        c: c,
-        d: d,
+    Four {
+        a: w.begin,
+        b: w.end,
+        c: w.step,
+        d: w.rate,
     }
 }
 
@@ -63,20 +57,12 @@ fn act_operands(a: Act) -> Operands
     ensures { result ≡ code.act_operands a }
 {
     match a {
-        Act::Var(_) => no_operands(),
-        Act::Store(_, _, _) => no_operands(),
         Act::Copy(n, _) => one_operand(Operand::Name(n)),
         Act::Calc(_, n, x) => two_operands(Operand::Name(n), x),
-        Act::Meas(x, _, _) => one_operand(x),
-        Act::TimerGet(_) => no_operands(),
-        Act::SendString(_) => no_operands(),
-        Act::Wait(x) => one_operand(x),
-        Act::SetE(x) => one_operand(x),
-        Act::SetMode(_) => no_operands(),
-        Act::TimerStart => no_operands(),
-        Act::CellOn => no_operands(),
-        Act::CellOff => no_operands(),
-        Act::Abort => no_operands(),
+        Act::Meas(x, _, _) | Act::Wait(x) | Act::SetE(x) => one_operand(x),
+        Act::Var(_) | Act::Store(_, _, _) | Act::TimerGet(_) | Act::SendString(_) => no_operands(),
+        Act::SetMode(_) | Act::TimerStart | Act::CellOn | Act::CellOff | Act::Abort =>
+            no_operands(),
     }
 }
 
@@ -84,9 +70,8 @@ fn pack_operands(p: Pack) -> Operands
     ensures { result ≡ code.pack_operands p }
 {
     match p {
-        Pack::Start => no_operands(),
         Pack::Add(n) => one_operand(Operand::Name(n)),
-        Pack::End => no_operands(),
+        Pack::Start | Pack::End => no_operands(),
     }
 }
 
@@ -94,8 +79,7 @@ fn head_operands(h: Head) -> Operands
     ensures { result ≡ code.head_operands h }
 {
     match h {
-        Head::If(c) => condition_operands(c),
-        Head::Loop(c) => condition_operands(c),
+        Head::If(c) | Head::Loop(c) => condition_operands(c),
         Head::Sweep(w) => sweep_operands(w),
     }
 }
@@ -118,9 +102,7 @@ pub fn operands_of(item: Item) -> Operands
         Item::Pack(p) => pack_operands(p),
         Item::Open(h) => head_operands(h),
         Item::Branch(b) => branch_operands(b),
-        Item::Close(_) => no_operands(),
-        Item::Break => no_operands(),
-        Item::Tag => no_operands(),
+        Item::Close(_) | Item::Break | Item::Tag => no_operands(),
     }
 }
 
@@ -143,46 +125,38 @@ fn place_of(x: Operand) -> usize
 pub fn places_of(operands: Operands) -> Places
     ensures { result ≡ code.places_of operands }
 {
-    let a = operands.a;
-    let b = operands.b;
-    let c = operands.c;
-    let d = operands.d;
-    Places {
-        a: place_of(a),
-        b: place_of(b),
-        c: place_of(c),
-        d: place_of(d),
+    Four {
+        a: place_of(operands.a),
+        b: place_of(operands.b),
+        c: place_of(operands.c),
+        d: place_of(operands.d),
     }
 }
 
-fn cell_in(n: usize, v: Var) -> Cell
+fn cell_in(n: usize, v: Cell) -> Cell
     ensures { result ≡ code.cell_in n v }
 {
-    if n < NAMES { v.cell } else { Cell::Unwritten }
+    if n < NAMES { v } else { None }
 }
 
 // What an operand holds, where v stands at its place; a literal as if a name held it.
-fn cell_of(x: Operand, v: Var) -> Cell
+fn cell_of(x: Operand, v: Cell) -> Cell
     ensures { result ≡ code.cell_of x v }
 {
     match x {
         Operand::Name(n) => cell_in(n, v),
-        Operand::Literal(l) => Cell::Holds(l, 0),
+        Operand::Literal(l) => Some((l, 0)),
     }
 }
 
 // What operands hold, where these stand at their places.
-pub fn cells_of(operands: Operands, a: Var, b: Var, c: Var, d: Var) -> Cells
-    ensures { result ≡ code.cells_of operands a b c d }
+pub fn cells_of(operands: Operands, at: Cells) -> Cells
+    ensures { result ≡ code.cells_of operands at.a at.b at.c at.d }
 {
-    let oa = operands.a;
-    let ob = operands.b;
-    let oc = operands.c;
-    let od = operands.d;
-    Cells {
-        a: cell_of(oa, a),
-        b: cell_of(ob, b),
-        c: cell_of(oc, c),
-        d: cell_of(od, d),
+    Four {
+        a: cell_of(operands.a, at.a),
+        b: cell_of(operands.b, at.b),
+        c: cell_of(operands.c, at.c),
+        d: cell_of(operands.d, at.d),
     }
 }

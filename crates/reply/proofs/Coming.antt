@@ -6,34 +6,26 @@ use Prim.Native.Nat.{ℕ, zero, suc, ◌+◌, ◌-◌, ◌<◌, ◌≤◌}
 use Rattle.reply.specs.declared.Row.{Row}
 use Rattle.reply.specs.declared.Stand.{Stand}
 use Rattle.reply.specs.declared.Turn.{Turn}
-use Rattle.reply.specs.Code.{start_in, place_in, turned, Memory, turn_in, memory_after, pass_from}
-use Rattle.reply.specs.Reply.{verdict, meaning, outcome_of}
+use Rattle.reply.specs.Code.{begun_at, place_in, turned, Memory, turn_in, memory_after, pass_from, whole}
 use Rattle.reply.proofs.Pass.{one_turn, no_turn}
 use Rattle.reply.proofs.Turns.{ahead}
-use Rattle.reply.proofs.Whole.{whole, Starts, starts, starts_with}
+use Rattle.reply.proofs.Whole.{Starts}
 
--- the stand st and the memory x, of a pass that began with the memory lent
-pub record Come {X : Type 0} (m : Memory X) (s : List ℕ) (n : ℕ) (lent : X) (st : Stand) (x : X) : Type 0 where
+-- the stand st and the memory x, of a pass over so many bytes that began with the memory lent
+pub record Come {X : Type 0} (m : Memory X) (s : List ℕ) (n used : ℕ) (lent : X) (st : Stand) (x : X) : Type 0 where
   pub fuel : ℕ
   pub enough : st.end ≤ st.pos + fuel
-  pub left : pass_from m fuel s n st x ≡ whole m s n lent
-  pub answer : st.answer ≡ verdict n s
+  pub left : pass_from m fuel s n st x ≡ whole m s n used lent
   pub ready : Starts n st
 
-pub come_first : {X : Type 0} (m : Memory X) (s : List ℕ) (n : ℕ) (lent : X) → Come m s n lent (start_in s n) lent
-come_first m s n lent =
-    record {
-      fuel = (start_in s n).end;
-      enough = omega arith;
-      left = refl;
-      answer = starts_with s n;
-      ready = starts s n;
-    }
+pub come_first : {X : Type 0} (m : Memory X) (s : List ℕ) (n used : ℕ) (lent : X) → Starts n (begun_at s used)
+    → Come m s n used lent (begun_at s used) lent
+come_first m s n used lent ready = record { fuel = used; enough = omega arith; left = refl; ready = ready }
 
 -- ---- a turn
 
-module _ {X : Type 0} {m : Memory X} {s : List ℕ} {n : ℕ} {lent : X} {st : Stand} {x : X}
-    (c : Come m s n lent st x) (h : st.pos < st.end) where
+module _ {X : Type 0} {m : Memory X} {s : List ℕ} {n used : ℕ} {lent : X} {st : Stand} {x : X}
+    (c : Come m s n used lent st x) (h : st.pos < st.end) where
   -- fewer bytes are left
   pub come_less : (old : Row) → (turned s st old).next.end - (turned s st old).next.pos < st.end - st.pos
   unfolding turned
@@ -43,30 +35,25 @@ module _ {X : Type 0} {m : Memory X} {s : List ℕ} {n : ℕ} {lent : X} {st : S
   unfolding turned
   ready_on = record { some = λ g. c.ready.some h; on = λ g. ahead s st.end st.next g }
 
-  answer_on : (turn_in m s n st x).next.answer ≡ verdict n s
-  unfolding turned
-  answer_on = c.answer
-
   enough_on : (f : ℕ) → st.end ≤ st.pos + suc f
       → (turn_in m s n st x).next.end ≤ (turn_in m s n st x).next.pos + f
   unfolding turned
   enough_on f e = omega (arith, c.ready.on h)
 
-  pub come_on : Come m s n lent (turn_in m s n st x).next (memory_after m s n st x)
+  pub come_on : Come m s n used lent (turn_in m s n st x).next (memory_after m s n st x)
   come_on = by_fuel c.fuel c.enough c.left
     where
       none : st.end ≤ st.pos + 0 → ⊥
       none e = omega arith
 
-      by_fuel : (f : ℕ) → st.end ≤ st.pos + f → pass_from m f s n st x ≡ whole m s n lent
-          → Come m s n lent (turn_in m s n st x).next (memory_after m s n st x)
+      by_fuel : (f : ℕ) → st.end ≤ st.pos + f → pass_from m f s n st x ≡ whole m s n used lent
+          → Come m s n used lent (turn_in m s n st x).next (memory_after m s n st x)
       by_fuel zero e l = absurd (none e)
       by_fuel (suc f) e l =
           record {
             fuel = f;
             enough = enough_on f e;
             left = sym (one_turn m s n f st x h) ∙ l;
-            answer = answer_on;
             ready = ready_on;
           }
 
@@ -86,20 +73,16 @@ module _ {X : Type 0} {m : Memory X} {s : List ℕ} {n : ℕ} {st : Stand} {x : 
   taken_memory : y ≡ memory_after m s n st x
   taken_memory = k.memory ∙ (λ i. m.put x (k.place i) (taken_turn i).row)
 
-  pub take_on : {lent : X} → Come m s n lent st x → st.pos < st.end → Come m s n lent t.next y
+  pub take_on : {used : ℕ} {lent : X} → Come m s n used lent st x → st.pos < st.end → Come m s n used lent t.next y
   take_on c h = rw (taken_turn, taken_memory) (come_on c h)
 
-  pub take_less : {lent : X} → Come m s n lent st x → st.pos < st.end
+  pub take_less : {used : ℕ} {lent : X} → Come m s n used lent st x → st.pos < st.end
       → t.next.end - t.next.pos < st.end - st.pos
   take_less c h = rw k.turn (come_less c h old)
 
 -- ---- at the end
 
-module _ {X : Type 0} {m : Memory X} {s : List ℕ} {n : ℕ} {lent : X} {st : Stand} {x : X}
-    (c : Come m s n lent st x) where
-  pub come_end : st.end ≤ st.pos → x ≡ whole m s n lent
+module _ {X : Type 0} {m : Memory X} {s : List ℕ} {n used : ℕ} {lent : X} {st : Stand} {x : X}
+    (c : Come m s n used lent st x) where
+  pub come_end : st.end ≤ st.pos → x ≡ whole m s n used lent
   come_end h = sym (no_turn m s n c.fuel st x h) ∙ c.left
-
-  pub come_says : meaning st.answer ≡ outcome_of n s
-  unfolding outcome_of
-  come_says = ap meaning c.answer

@@ -1,5 +1,6 @@
 -- The course of a reading: where it stands before a line, and one induction for all that holds of the verdict, the rows
 -- and the lines that are read. Assumes nothing.
+use Rattle.std.proofs.Common.{Option, Some, None, Ok, Err}
 use mathlib.Core.List.{List, [], ◌∷◌}
 use mathlib.Core.Path.{◌≡◌, refl, sym, ◌∙◌, ap}
 use native.Mathlib.Decide.{dec_lt}
@@ -11,13 +12,12 @@ use Rattle.text.specs.Cut.{lines}
 use Rattle.reply_line.specs.declared.Line.{Line}
 use Rattle.reply_line.specs.declared.Refusal.{Refusal}
 use Rattle.reply_line.specs.Line.{line_at}
-use Rattle.reply_step.specs.declared.Move.{Move}
+use Rattle.reply_step.specs.Move.{Move}
 use Rattle.reply_step.specs.Step.{Open, step}
-use Rattle.reply.specs.declared.Answer.{Answer}
 use Rattle.reply.specs.declared.NextLine.{NextLine}
 use Rattle.reply.specs.declared.Row.{Row}
-use Rattle.reply.specs.Lines.{next_line}
-use Rattle.reply.specs.Reply.{by_move, verdict_from}
+use Rattle.reply.specs.Lines.{line_to, next_line, none_left}
+use Rattle.reply.specs.Reply.{Answer, answered, by_move, refused_at, verdict_from}
 use Rattle.reply.specs.Rows.{rows_after, holder_after, while_on, rows_from, seen_from}
 use Rattle.reply.proofs.Lines.{Stands, stands, serves, Round, goes_on, ends_here, refused_here}
 use Rattle.reply.proofs.Lines.{no_line, no_more}
@@ -52,15 +52,24 @@ module _ (n : ℕ) where
   abbrev pub reads_from : Place → List (List ℕ) → List Line
   reads_from p ls = seen_from n p.number p.state ls
 
-pub not_read : {w : Refusal} {k c u r : ℕ} → Answer.Refused w k ≡ Answer.Read c u r → ⊥
+pub not_read : {w : Refusal} {k c u r : ℕ} → refused_at w k ≡ answered c u r → ⊥
 not_read e = apart cc
+
+-- the bytes used and the rows of a reply that is read; 0 of another
+abbrev pub used_in : Answer → ℕ
+used_in (Ok r) = r.used
+used_in (Err w) = 0
+
+abbrev pub rows_in : Answer → ℕ
+rows_in (Ok r) = r.rows
+rows_in (Err w) = 0
 
 -- ---- by each line
 
 -- the reading ends before the line past p: read, it used more bytes, and the rows are counted
 pub record Done (p : Place) (v : Answer) : Type 0 where
-  pub farther : {c u r : ℕ} → v ≡ Answer.Read c u r → p.used < u
-  pub counted : {c u r : ℕ} → v ≡ Answer.Read c u r → p.state.rows ≡ r
+  pub farther : {c u r : ℕ} → v ≡ answered c u r → p.used < u
+  pub counted : {c u r : ℕ} → v ≡ answered c u r → p.state.rows ≡ r
 
 -- what holds where the reading ends, and of a place if it holds past the next line, holds of every place
 module _ (n : ℕ) (P : Place → List Row → List Line → Answer → Type 0)
@@ -70,7 +79,7 @@ module _ (n : ℕ) (P : Place → List Row → List Line → Answer → Type 0)
   pub by_lines : (p : Place) (ls : List (List ℕ)) → P p (makes_from n p ls) (reads_from n p ls) (says_from n p ls)
   unfolding verdict_from rows_from seen_from
   by_lines p [] =
-      ends p (Answer.Refused Refusal.NoEnding p.number)
+      ends p (refused_at Refusal.NoEnding p.number)
       (record { farther = λ e. absurd (not_read e); counted = λ e. absurd (not_read e) })
   by_lines p (t ∷ ls) =
       by_move_lem (step n l p.state).to refl (makes_from n next ls) (reads_from n next ls) (says_from n next ls)
@@ -90,13 +99,13 @@ module _ (n : ℕ) (P : Place → List Row → List Line → Answer → Type 0)
           → P p (while_on m out p.rows) (while_on m (l ∷ seen) []) (by_move m v p.number x p.state.rows)
       by_move_lem Move.On e out seen v q = leads p l x out seen v (omega arith) e q
       by_move_lem (Move.Ends w) e out seen v q =
-          ends p (Answer.Read w x p.state.rows)
+          ends p (answered w x p.state.rows)
           (record {
-            farther = λ {c} {u} {r} e. (let y : x ≡ u = cc in omega arith);
-            counted = λ {c} {u} {r} e. (let y : p.state.rows ≡ r = cc in y);
+            farther = λ {c} {u} {r} e. (let y : x ≡ u = ap used_in e in omega arith);
+            counted = λ {c} {u} {r} e. ap rows_in e;
           })
       by_move_lem (Move.Refused w) e out seen v q =
-          ends p (Answer.Refused w p.number)
+          ends p (refused_at w p.number)
           (record { farther = λ e. absurd (not_read e); counted = λ e. absurd (not_read e) })
 
 -- ---- a line met at a place of the reply
@@ -105,7 +114,7 @@ module _ (n : ℕ) (P : Place → List Row → List Line → Answer → Type 0)
 pub record Met (s : List ℕ) (n : ℕ) (p : Place) (l : Line) (x : ℕ) : Type 0 where
   pub start : ℕ
   pub end : ℕ
-  pub text : NextLine.Text start end x ≡ next_line s p.used
+  pub text : line_to start end x ≡ next_line s p.used
   pub is : l ≡ line_at n p.number (take (end - start) (drop start s))
 
 module _ {s : List ℕ} {n : ℕ} {p : Place} {l : Line} {x : ℕ} (m : Met s n p l x) where
@@ -138,31 +147,34 @@ module _ {s : List ℕ} {n : ℕ} {p : Place} {l : Line} {x : ℕ} (m : Met s n 
 -- where the next line of a good reply leads: on, or to its end
 pub data Leads (s : List ℕ) (n : ℕ) (p : Place) (c u r : ℕ) : Type 0 where
   on : (l : Line) (x : ℕ) → Met s n p l x → (step n l p.state).to ≡ Move.On
-      → says_from n (past n l x p) (lines (drop x s)) ≡ Answer.Read c u r → Leads s n p c u r
+      → says_from n (past n l x p) (lines (drop x s)) ≡ answered c u r → Leads s n p c u r
   ends : (l : Line) (v : ℕ) → Met s n p l u → (step n l p.state).to ≡ Move.Ends v → Leads s n p c u r
 
 pub leads : (s : List ℕ) (n : ℕ) (p : Place) (c u r : ℕ)
-    → says_from n p (lines (drop p.used s)) ≡ Answer.Read c u r → Leads s n p c u r
+    → says_from n p (lines (drop p.used s)) ≡ answered c u r → Leads s n p c u r
 leads s n p c u r good = by_line (next_line s p.used) refl
   where
-    none : NextLine.End ≡ next_line s p.used → Dec (length s < p.used) → ⊥
+    none : none_left ≡ next_line s p.used → Dec (length s < p.used) → ⊥
     none t (yes h) = not_read (sym (no_more s n p.number p.used p.state (omega arith)) ∙ good)
     none t (no h) = not_read (sym (no_line s n p.number p.used p.state (omega arith) t) ∙ good)
 
-    by_line : (y : NextLine) → next_line s p.used ≡ y → Leads s n p c u r
-    by_line NextLine.End t = absurd (none (sym t) (dec_lt (length s) p.used))
-    by_line (NextLine.Text a e x) t = by_move_lem (step n l p.state).to refl
+    by_line : (y : Option NextLine) → next_line s p.used ≡ y → Leads s n p c u r
+    by_line None t = absurd (none (sym t) (dec_lt (length s) p.used))
+    by_line (Some y) t = by_move_lem (step n l p.state).to refl
       where
         l : Line
-        l = line_at n p.number (take (e - a) (drop a s))
+        l = line_at n p.number (take (y.end - y.start) (drop y.start s))
+
+        x : ℕ
+        x = y.next
 
         met : Met s n p l x
-        met = record { start = a; end = e; text = sym t; is = refl }
+        met = record { start = y.start; end = y.end; text = sym t; is = refl }
 
         by_move_lem : (m : Move) → (step n l p.state).to ≡ m → Leads s n p c u r
         by_move_lem Move.On m = on l x met m (sym (goes_on (round met) m) ∙ good)
         by_move_lem (Move.Ends v) m =
-            let q : Answer.Read v x p.state.rows ≡ Answer.Read c u r = sym (ends_here (round met) m) ∙ good in
-            let y : x ≡ u = cc in
-            ends l v (rw y at met) m
+            let q : answered v x p.state.rows ≡ answered c u r = sym (ends_here (round met) m) ∙ good in
+            let same : x ≡ u = ap used_in q in
+            ends l v (rw same at met) m
         by_move_lem (Move.Refused w) m = absurd (not_read (sym (refused_here (round met) m) ∙ good))

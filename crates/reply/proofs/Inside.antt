@@ -12,7 +12,7 @@ use Rattle.laws.proofs.Apart.{apart}
 use Rattle.text.specs.Cut.{lines}
 use Rattle.reply_line.specs.declared.Line.{Line}
 use Rattle.reply_line.specs.declared.RowKind.{RowKind}
-use Rattle.reply_step.specs.declared.Move.TheVariants as Move
+use Rattle.reply_step.specs.Move as Move
 use Rattle.reply_step.specs.Step.{Open, begun, step, innermost, may_open, opened, closed, outer, closes}
 use Rattle.reply_step.proofs.Leading.{LeadsOn, InPlace, open_after, Onward, onward}
 use Rattle.reply_step.proofs.Places.{by_innermost, scan_inside, none_inside_scan, some_closed}

@@ -5,9 +5,8 @@ use native.Mathlib.Omega.{arith}
 use Prim.Native.Nat.{ℕ, ◌*◌, ◌≤◌, ◌<◌}
 use lib.ListN.{length, get_or}
 use Rattle.text.specs.Put.{put}
-use Rattle.reply.specs.declared.Answer.{Answer}
 use Rattle.reply.specs.Numbers.{listed, room_in, numbers_after, numbers_of, row_in}
-use Rattle.reply.specs.Reply.{verdict, meaning, outcome_of}
+use Rattle.reply.specs.Reply.{Answer, answered, verdict, meaning, outcome_of}
 use Rattle.reply.specs.Rows.{script_row, rows_of}
 use Rattle.reply.proofs.Listed.{four_fit, row_back}
 use Rattle.reply.proofs.Rows.{answer_counts}
@@ -15,8 +14,8 @@ use Rattle.reply.proofs.Tight.{meaning_injective}
 use Rattle.reply.proofs.Whole.{Judged, judged, rows_fit}
 
 module _ (s lent : List ℕ) (v : Answer) (c u r row : ℕ) (says : meaning v ≡ outcome_of (room_in lent) s)
-    (read : v ≡ Answer.Read c u r) (h : row < r) where
-  good : verdict (room_in lent) s ≡ Answer.Read c u r
+    (read : v ≡ answered c u r) (h : row < r) where
+  good : verdict (room_in lent) s ≡ answered c u r
   unfolding outcome_of
   good = sym (meaning_injective v (verdict (room_in lent) s) says) ∙ read
 

@@ -14,14 +14,14 @@ use Rattle.reply_line.specs.declared.Line.{Line}
 use Rattle.reply_line.specs.declared.Refusal.{Refusal}
 use Rattle.reply_line.specs.Line.{later_line, line_at}
 use Rattle.reply_line.proofs.Lines.{known_same}
-use Rattle.reply_step.specs.declared.Move.TheVariants as Move
+use Rattle.reply_step.specs.Move as Move
 use Rattle.reply_step.specs.Step.{Open, step}
 use Rattle.reply_step.proofs.Leading.{refused_not_on, refused_not_ends, LeadsOn, onward, Ending, ending}
-use Rattle.reply.specs.declared.Answer.{Answer}
 use Rattle.reply.specs.declared.Change.{Change}
 use Rattle.reply.specs.declared.Row.{Row}
 use Rattle.reply.specs.declared.Seen.{Seen}
 use Rattle.reply.specs.declared.Stand.{Stand}
+use Rattle.reply.specs.Reply.{answered}
 use Rattle.reply.specs.Code.{seen_at, place_by, one_more, raised_row, change_by, clamp, place_in, turned}
 use Rattle.reply.specs.Code.{Memory, turn_in, memory_after, pass_from}
 use Rattle.reply.specs.Rows.{script_row, new_row, raised, rows_after, holder_after, is_opening, is_package}
@@ -184,8 +184,8 @@ module _ {X : Type 0} (m : Memory X) (s : List ℕ) (n : ℕ) where
       (le-ltb st.pos st.end h)
 
 -- the stand at a line that is not the first
-abbrev pub later : List ℕ → ℕ → Answer → ℕ → ℕ → ℕ → Stand
-later s end a pos at count =
+abbrev pub later : List ℕ → ℕ → ℕ → ℕ → ℕ → Stand
+later s end pos at count =
     record {
       pos = pos;
       end = end;
@@ -193,21 +193,20 @@ later s end a pos at count =
       next = (seen_at s end pos).next;
       holder = at;
       rows = count;
-      answer = a;
     }
 
-module _ {X : Type 0} (m : Memory X) (s : List ℕ) (n end : ℕ) (a : Answer) where
+module _ {X : Type 0} (m : Memory X) (s : List ℕ) (n end : ℕ) where
   turn_by : (f pos at count : ℕ) (x : X) (l : Line) (next : ℕ) → pos < end
       → record { line = l; next = next } ≡ seen_at s end pos
-      → pass_from m (suc f) s n (later s end a pos at count) x
+      → pass_from m (suc f) s n (later s end pos at count) x
       ≡ pass_from m f s n
-      (later s end a next (change_for m n count l at x).holder (change_for m n count l at x).rows)
+      (later s end next (change_for m n count l at x).holder (change_for m n count l at x).rows)
       (put_for m n count l at x)
   unfolding turned place_in
   turn_by f pos at count x l next h q =
-      one_turn m s n f (later s end a pos at count) x h
+      one_turn m s n f (later s end pos at count) x h
       ∙ sym (ap (λ (y : Seen). pass_from m f s n
-      (later s end a y.next (change_for m n count y.line at x).holder (change_for m n count y.line at x).rows)
+      (later s end y.next (change_for m n count y.line at x).holder (change_for m n count y.line at x).rows)
       (put_for m n count y.line at x)) q)
 
 -- ---- a line of a good reply is the same where it is not judged again
@@ -243,7 +242,7 @@ pub record Going (s : List ℕ) (n c u r : ℕ) (p : Place) : Type 0 where
   pub sound : Sound p.state p.holder p.rows
   pub fit : length p.rows ≤ n
   pub few : length p.rows + packages_of p.rows ≤ p.used
-  pub good : says_from n p (lines (drop p.used s)) ≡ Answer.Read c u r
+  pub good : says_from n p (lines (drop p.used s)) ≡ answered c u r
 
 at_most_one : (l : Line) → is_opening l + is_package l ≤ 1
 unfolding is_opening is_package
@@ -269,7 +268,7 @@ has_row n o (Line.Refused r) count y e h = absurd y
 
 module _ {s : List ℕ} {n c u r : ℕ} {p : Place} (g : Going s n c u r p) {l : Line} {x : ℕ} (d : Met s n p l x) where
   -- after a line that goes on, the same holds at the next
-  going_on : (step n l p.state).to ≡ Move.On → says_from n (past n l x p) (lines (drop x s)) ≡ Answer.Read c u r
+  going_on : (step n l p.state).to ≡ Move.On → says_from n (past n l x p) (lines (drop x s)) ≡ answered c u r
       → Going s n c u r (past n l x p)
   going_on e good =
       let long : length (rows_after l p.holder p.rows) ≡ length p.rows + is_opening l =
@@ -305,7 +304,7 @@ module _ {s : List ℕ} {n c u r : ℕ} {p : Place} (g : Going s n c u r p) {l :
 module _ {X : Type 0} {m : Memory X} {n : ℕ} {show : List Row → X} (w : Shows m n show) (s : List ℕ) (c u r : ℕ)
     (short : length s ≤ 65536) where
   abbrev at_place : Place → Stand
-  at_place p = later s u (Answer.Read c u r) p.used p.holder (length p.rows)
+  at_place p = later s u p.used p.holder (length p.rows)
 
   -- with turns enough, the pass makes of the rows so far what the lines still make of them
   pub bridge : (f : ℕ) (p : Place) → u ≤ p.used + f → Going s n c u r p
@@ -326,14 +325,14 @@ module _ {X : Type 0} {m : Memory X} {n : ℕ} {show : List Row → X} (w : Show
       by_lead (on l x d e good) ih =
           let t : Turned m n show l p.holder p.rows =
           turned_on w (held g d short) l (onward n p.state l e).may in
-          turn_by m s n u (Answer.Read c u r) f p.used p.holder (length p.rows) (show p.rows) l x left
+          turn_by m s n u f p.used p.holder (length p.rows) (show p.rows) l x left
           (seen_here d u g.second (λ v q. refused_not_on (sym q ∙ e)))
-          ∙ (λ i. pass_from m f s n (later s u (Answer.Read c u r) x (t.holder i) (t.count i)) (t.memory i))
+          ∙ (λ i. pass_from m f s n (later s u x (t.holder i) (t.count i)) (t.memory i))
           ∙ ih (past n l x p) (omega (arith, (standing d).end, (standing d).next)) (going_on g d e good)
           ∙ sym (ap show (rows_on d e))
       by_lead (ends l v d e) ih =
-          turn_by m s n u (Answer.Read c u r) f p.used p.holder (length p.rows) (show p.rows) l u left
+          turn_by m s n u f p.used p.holder (length p.rows) (show p.rows) l u left
           (seen_here d u g.second (λ y q. refused_not_ends (sym q ∙ e)))
-          ∙ no_turn m s n f (later s u (Answer.Read c u r) u _ _) _ (omega arith)
+          ∙ no_turn m s n f (later s u u _ _) _ (omega arith)
           ∙ kept_at_end w (held g d short) l (ending n p.state l e)
           ∙ sym (ap show (rows_ended d e))

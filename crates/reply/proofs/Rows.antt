@@ -11,12 +11,11 @@ use lib.Seq.{get_or_at, map-set_same}
 use Rattle.text.specs.Cut.{lines}
 use Rattle.reply_line.specs.declared.RowKind.{RowKind}
 use Rattle.reply_line.specs.declared.Line.{Line}
-use Rattle.reply_step.specs.declared.Move.TheVariants as Move
+use Rattle.reply_step.specs.Move as Move
 use Rattle.reply_step.specs.Step.{Open, begun, step, opened, closed}
 use Rattle.reply_step.proofs.Leading.{LeadsOn, open_after, Onward, onward}
-use Rattle.reply.specs.declared.Answer.{Answer}
 use Rattle.reply.specs.declared.Row.{Row}
-use Rattle.reply.specs.Reply.{verdict_from}
+use Rattle.reply.specs.Reply.{Answer, answered, verdict_from}
 use Rattle.reply.specs.Rows.{script_row, new_row, raised, rows_after, holder_after, rows_of, seen_in}
 use Rattle.reply.specs.Rows.{is_opening, opens, openings, is_package, count_by, packages_of}
 use Rattle.reply.proofs.Course.{Place, past, makes_from, reads_from, says_from, Done, by_lines}
@@ -199,8 +198,8 @@ pub record Rooted (x : List Row) : Type 0 where
 pub record Right (n : ℕ) (p : Place) (out : List Row) (seen : List Line) (v : Answer) : Type 0 where
   pub grown : Grown p out seen
   pub rooted : Rooted out
-  pub counted : {c u r : ℕ} → v ≡ Answer.Read c u r → length out ≡ r
-  pub fits : {c u r : ℕ} → p.state.rows ≤ n → v ≡ Answer.Read c u r → r ≤ n
+  pub counted : {c u r : ℕ} → v ≡ answered c u r → length out ≡ r
+  pub fits : {c u r : ℕ} → p.state.rows ≤ n → v ≡ answered c u r → r ≤ n
 
 abbrev pub SoundAt : Place → Type 0
 SoundAt p = Sound p.state p.holder p.rows
@@ -253,9 +252,9 @@ pub right : (n : ℕ) (p : Place) (ls : List (List ℕ)) → SoundAt p
     → Right n p (makes_from n p ls) (reads_from n p ls) (says_from n p ls)
 right n = by_lines n (λ p out seen v. SoundAt p → Right n p out seen v) (right_done n) (right_on n)
 
-pub used_more : (n : ℕ) (p : Place) (ls : List (List ℕ)) {c u r : ℕ} → says_from n p ls ≡ Answer.Read c u r → p.used < u
+pub used_more : (n : ℕ) (p : Place) (ls : List (List ℕ)) {c u r : ℕ} → says_from n p ls ≡ answered c u r → p.used < u
 used_more n p ls {c} {u} {r} e =
-    by_lines n (λ p out seen v. v ≡ Answer.Read c u r → p.used < u)
+    by_lines n (λ p out seen v. v ≡ answered c u r → p.used < u)
     (λ p v d. d.farther)
     (λ p l x out seen v more m rest e. omega (arith, more, rest e))
     p ls e
@@ -290,11 +289,11 @@ module _ (n : ℕ) (s : List ℕ) where
   own_parent = from_outset.rooted.own
 
   -- the answer's count is the number of rows
-  pub answer_counts : {c u r : ℕ} → verdict_from n 1 0 begun (lines s) ≡ Answer.Read c u r → length (rows_of n s) ≡ r
+  pub answer_counts : {c u r : ℕ} → verdict_from n 1 0 begun (lines s) ≡ answered c u r → length (rows_of n s) ≡ r
   answer_counts = from_outset.counted
 
   -- and no more than the table has
-  pub answer_fits : {c u r : ℕ} → 0 < n → verdict_from n 1 0 begun (lines s) ≡ Answer.Read c u r → r ≤ n
+  pub answer_fits : {c u r : ℕ} → 0 < n → verdict_from n 1 0 begun (lines s) ≡ answered c u r → r ≤ n
   answer_fits some = from_outset.fits some
 
 -- past the last row stands the script's

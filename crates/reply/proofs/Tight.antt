@@ -1,4 +1,5 @@
 -- No second answer fits a contract of this crate, and no second table. Assumes nothing.
+use Rattle.std.proofs.Common.{Option, Ok, Err}
 use denote.Ref.{Bor}
 use mathlib.Core.Bool.{cond}
 use mathlib.Core.List.{List}
@@ -9,14 +10,13 @@ use lib.ListN.{get_or}
 use Rattle.laws.proofs.Apart.{apart}
 use Rattle.reply_line.specs.declared.Refusal.{Refusal}
 use Rattle.reply_line.specs.Line.{number_of}
-use Rattle.reply.specs.declared.Answer.{Answer}
 use Rattle.reply.specs.declared.LineReader.{LineReader}
 use Rattle.reply.specs.declared.NextLine.{NextLine}
 use Rattle.reply.specs.declared.Row.{Row}
 use Rattle.reply.specs.declared.RowTable.{RowTable}
 use Rattle.reply.specs.Lines.{Begins, Serves}
 use Rattle.reply.specs.Numbers.{ReadNumbers, row_in}
-use Rattle.reply.specs.Reply.{meaning, outcome_of}
+use Rattle.reply.specs.Reply.{Answer, meaning, outcome_of, refused_at}
 use Rattle.reply.specs.Rows.{script_row, ReadRows, Tabled, table_meaning, read_table}
 
 -- the refusal that has a number
@@ -46,13 +46,17 @@ number_injective a b e = sym (named_back a) ∙ ap named e ∙ named_back b
 
 pub meaning_injective : (a b : Answer) → meaning a ≡ meaning b → a ≡ b
 unfolding meaning
-meaning_injective (Answer.Read c u r) (Answer.Read c' u' r') e = cc
-meaning_injective (Answer.Read c u r) (Answer.Refused w k) e = absurd (apart cc)
-meaning_injective (Answer.Refused w k) (Answer.Read c u r) e = absurd (apart cc)
-meaning_injective (Answer.Refused w k) (Answer.Refused w' k') e =
+meaning_injective (Ok x) (Ok y) e =
+    let p : x.code ≡ y.code = cc in
+    let q : x.used ≡ y.used = cc in
+    let r : x.rows ≡ y.rows = cc in
+    λ i. Ok (record { code = p i; used = q i; rows = r i })
+meaning_injective (Ok x) (Err (w, k)) e = absurd (apart cc)
+meaning_injective (Err (w, k)) (Ok y) e = absurd (apart cc)
+meaning_injective (Err (w, k)) (Err (w', k')) e =
     let p : number_of w ≡ number_of w' = cc in
     let q : k ≡ k' = cc in
-    ap₂ Answer.Refused (number_injective w w' p) q
+    ap₂ refused_at (number_injective w w' p) q
 
 pub only_judge_reply : (s : List ℕ) (n : ℕ) (a b : Answer) → meaning a ≡ outcome_of n s
     → meaning b ≡ outcome_of n s → a ≡ b
@@ -92,7 +96,7 @@ only_lines_of s a b p q =
     λ i. record { reply = r i; at = t i }
 
 -- the answer, and the reader afterwards
-pub only_line_reader_next : (h : LineReader) (l m : NextLine) (a b : LineReader)
+pub only_line_reader_next : (h : LineReader) (l m : Option NextLine) (a b : LineReader)
     → Serves h l a → Serves h m b → (l ≡ m) × (a ≡ b)
 only_line_reader_next h l m a b p q =
     let r : a.reply ≡ b.reply = p.over ∙ sym q.over in

@@ -1,4 +1,5 @@
 -- Laws of one turn of the second pass: what the code puts together is the definition. Assumes nothing.
+use Rattle.std.proofs.Common.{Option, Some, None}
 use mathlib.Core.Bool.{Bool, true, false, cond}
 use mathlib.Core.List.{List}
 use mathlib.Core.Path.{◌≡◌, refl, sym, ◌∙◌, ap}
@@ -8,60 +9,49 @@ use borrow.Author.Tests.{lt-ltb, le-ltb, ltb-true}
 use lib.Dec.{ltb}
 use lib.ListN.{take, drop}
 use Rattle.reply_line.specs.declared.Line.{Line}
-use Rattle.reply_line.specs.declared.Refusal.{Refusal}
 use Rattle.reply_line.specs.Code.{later_by}
-use Rattle.reply.specs.declared.Answer.{Answer}
 use Rattle.reply.specs.declared.Change.{Change}
 use Rattle.reply.specs.declared.NextLine.{NextLine}
 use Rattle.reply.specs.declared.Row.{Row}
 use Rattle.reply.specs.declared.Seen.{Seen}
 use Rattle.reply.specs.declared.Stand.{Stand}
-use Rattle.reply.specs.Code.{seen_of, seen_at, place_by, change_by, begun_at, none_left, standing, start_in}
-use Rattle.reply.specs.Code.{place_in}
+use Rattle.reply.specs.Code.{seen_of, seen_at, place_by, change_by, place_in}
 use Rattle.reply.specs.Code.{turn_to, turned}
-use Rattle.reply.specs.Lines.{next_line}
-use Rattle.reply.specs.Reply.{verdict}
+use Rattle.reply.specs.Lines.{line_to, next_line, none_left}
 use Rattle.reply.proofs.Lines.{Stands, stands}
 
 -- ---- the line at a place
 
-pub seen_text : (s : List ℕ) (end at a e x : ℕ) (l : Line) → NextLine.Text a e x ≡ next_line s at
+pub seen_text : (s : List ℕ) (end at a e x : ℕ) (l : Line) → line_to a e x ≡ next_line s at
     → l ≡ later_by true (take (e - a) (drop a s)) → record { line = l; next = x } ≡ seen_at s end at
 unfolding seen_at
 seen_text s end at a e x l t is = ap (λ (m : Line). record { line = m; next = x }) is ∙ ap (seen_of s end) t
 
-pub seen_none : (s : List ℕ) (end at : ℕ) → NextLine.End ≡ next_line s at
+-- as the code has it
+pub seen_found : (s : List ℕ) (end at : ℕ) (y : NextLine) (l : Line) → Some y ≡ next_line s at
+    → l ≡ later_by true (take (y.end - y.start) (drop y.start s))
+    → record { line = l; next = y.next } ≡ seen_at s end at
+seen_found s end at y l t is = seen_text s end at y.start y.end y.next l t is
+
+pub seen_none : (s : List ℕ) (end at : ℕ) → none_left ≡ next_line s at
     → record { line = Line.Quiet; next = end } ≡ seen_at s end at
 unfolding seen_at
 seen_none s end at t = ap (seen_of s end) t
 
-pub next_is : (s : List ℕ) (end at a e x : ℕ) → NextLine.Text a e x ≡ next_line s at → (seen_at s end at).next ≡ x
+pub next_is : (s : List ℕ) (end at a e x : ℕ) → line_to a e x ≡ next_line s at → (seen_at s end at).next ≡ x
 unfolding seen_at
-next_is s end at a e x t = sym (ap (λ (y : NextLine). (seen_of s end y).next) t)
+next_is s end at a e x t = sym (ap (λ (y : Option NextLine). (seen_of s end y).next) t)
 
 -- the next line starts further on
 pub ahead : (s : List ℕ) (end at : ℕ) → at < end → at < (seen_at s end at).next
 unfolding seen_at
 ahead s end at h = by_line (next_line s at) refl
   where
-    by_line : (l : NextLine) → next_line s at ≡ l → at < (seen_of s end l).next
-    by_line (NextLine.Text a e x) t =
-        let p : Stands s at a e x = stands s at a e x (sym t) in
+    by_line : (l : Option NextLine) → next_line s at ≡ l → at < (seen_of s end l).next
+    by_line (Some y) t =
+        let p : Stands s at y.start y.end y.next = stands s at y.start y.end y.next (sym t) in
         omega (arith, p.end, p.next)
-    by_line NextLine.End t = h
-
--- ---- the start
-
-pub begins : (s : List ℕ) (n : ℕ) {c u r : ℕ} {v : Answer} {x : Seen} → v ≡ verdict n s → v ≡ Answer.Read c u r
-    → x ≡ seen_at s u 0 → begun_at u x.next (Answer.Read c u r) ≡ start_in s n
-unfolding start_in
-begins s n {c} {u} {r} is read seen =
-    ap (λ (y : Seen). begun_at u y.next (Answer.Read c u r)) seen ∙ ap (standing s) (sym read ∙ is)
-
-pub begins_refused : (s : List ℕ) (n : ℕ) {w : Refusal} {l : ℕ} {v : Answer} → v ≡ verdict n s
-    → v ≡ Answer.Refused w l → none_left v ≡ start_in s n
-unfolding start_in
-begins_refused s n is read = ap none_left read ∙ ap (standing s) (sym read ∙ is)
+    by_line None t = h
 
 -- ---- the place of a turn
 

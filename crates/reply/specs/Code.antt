@@ -1,5 +1,6 @@
 -- What only the code's shape needs: the second pass over a reply that is known to be good, which row a line is about,
 -- what becomes of it, and the pass turn by turn, over rows and over numbers. Assumes nothing.
+use Rattle.std.specs.Prelude.{◌≡◌, Option, Some, None, Ok, Err}
 use Rattle.std.specs.Prelude.{true, cond, List, [], ◌∷◌, ℕ, zero, suc, ◌+◌, ◌-◌, ◌*◌, ◌%◌, ltb, take, drop, get_or, set}
 use Rattle.text.specs.Put.{put}
 use Rattle.reply_line.specs.declared.RowKind.TheVariants as RowKind
@@ -7,13 +8,12 @@ use Rattle.reply_line.specs.declared.Line.{Line}
 use Rattle.reply_line.specs.Line.{letter_of}
 use Rattle.reply_line.specs.Code.{later_by}
 use Rattle.reply.specs.declared.NextLine.{NextLine}
-use Rattle.reply.specs.declared.Answer.{Answer}
 use Rattle.reply.specs.declared.Row.{Row}
 use Rattle.reply.specs.declared.Seen.{Seen}
 use Rattle.reply.specs.declared.Stand.{Stand}
 use Rattle.reply.specs.declared.Change.{Change}
 use Rattle.reply.specs.declared.Turn.{Turn}
-use Rattle.reply.specs.Reply.{verdict}
+use Rattle.reply.specs.Reply.{Answer, verdict}
 use Rattle.reply.specs.Rows.{script_row, new_row}
 use Rattle.reply.specs.Lines.{next_line}
 use Rattle.reply.specs.Numbers.{row_in}
@@ -21,9 +21,9 @@ use Rattle.reply.specs.Numbers.{row_in}
 -- ---- a line of a reply that is known to be good
 
 -- the line at a place, and where the next one starts; with no line left, the end
-abbrev pub seen_of : List ℕ → ℕ → NextLine → Seen
-seen_of s end (NextLine.Text a e x) = record { line = later_by true (take (e - a) (drop a s)); next = x }
-seen_of s end NextLine.End = record { line = Line.Quiet; next = end }
+abbrev pub seen_of : List ℕ → ℕ → Option NextLine → Seen
+seen_of s end (Some y) = record { line = later_by true (take (y.end - y.start) (drop y.start s)); next = y.next }
+seen_of s end None = record { line = Line.Quiet; next = end }
 
 unfoldable pub seen_at : List ℕ → ℕ → ℕ → Seen
 unfolding next_line
@@ -66,30 +66,17 @@ clamp n p = cond (ltb p n) p 0
 
 -- ---- where the pass stands
 
--- at the first line, which opens the script's row
-abbrev pub begun_at : ℕ → ℕ → Answer → Stand
-begun_at used next a =
+-- at the first line, which opens the script's row, with so many bytes to read
+abbrev pub begun_at : List ℕ → ℕ → Stand
+begun_at s used =
     record {
       pos = 0;
       end = used;
       line = Line.Opens RowKind.Script 0;
-      next = next;
+      next = (seen_at s used 0).next;
       holder = 0;
       rows = 0;
-      answer = a;
     }
-
--- a reply that is refused has nothing left to read
-abbrev pub none_left : Answer → Stand
-none_left a = record { pos = 0; end = 0; line = Line.Quiet; next = 0; holder = 0; rows = 0; answer = a }
-
-abbrev pub standing : List ℕ → Answer → Stand
-standing s (Answer.Read code used rows) = begun_at used (seen_at s used 0).next (Answer.Read code used rows)
-standing s (Answer.Refused why line) = none_left (Answer.Refused why line)
-
-unfoldable pub start_in : List ℕ → ℕ → Stand
-unfolding verdict seen_at
-start_in s n = standing s (verdict n s)
 
 unfoldable pub place_in : Stand → ℕ → ℕ
 unfolding place_by
@@ -107,7 +94,6 @@ turn_to st c x =
         next = x.next;
         holder = c.holder;
         rows = c.rows;
-        answer = st.answer;
       };
     }
 
@@ -133,6 +119,23 @@ module _ {X : Type 0} (m : Memory X) where
   pass_from zero s n st x = x
   pass_from (suc f) s n st x =
       cond (ltb st.pos st.end) (pass_from f s n (turn_in s n st x).next (memory_after s n st x)) x
+
+  -- over a reply of which so many bytes are read
+  abbrev pub whole : List ℕ → ℕ → ℕ → X → X
+  whole s n used x = pass_from used s n (begun_at s used) x
+
+  -- what becomes of the memory, by the verdict
+  abbrev pub left_by : List ℕ → ℕ → Answer → X → X
+  left_by s n (Ok read) x = whole s n read.used x
+  left_by s n (Err refused) x = x
+
+-- the reply s was read into the memory lent, with room for n rows: r is the verdict, and out what the memory then is
+pub record Passed {X : Type 0} (m : Memory X) (n : ℕ) (s : List ℕ) (lent : X) (r : Answer) (out : X) : Type 0 where
+  pub says : r ≡ verdict n s
+  pub left : out ≡ left_by m s n r lent
+
+abbrev pub memory : {X : Type 0} → (X → ℕ → Row) → (X → ℕ → Row → X) → Memory X
+memory get put = record { get = get; put = put }
 
 -- rows
 abbrev pub table : Memory (List Row)

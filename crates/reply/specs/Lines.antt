@@ -1,6 +1,6 @@
 -- A reader of a reply's lines: it stands over the lent bytes at a place, serves the line there, and goes on behind it.
 -- Assumes nothing.
-use Rattle.std.specs.Prelude.{◌≡◌, cond, List, ℕ, ◌+◌, ltb, length, drop}
+use Rattle.std.specs.Prelude.{Option, Some, None, ◌≡◌, cond, List, ℕ, ◌+◌, ltb, length, drop}
 use Rattle.std.specs.Borrow.{Bor}
 use Rattle.text.specs.Cut.{before}
 use Rattle.reply.specs.declared.LineReader.{LineReader}
@@ -10,13 +10,20 @@ use Rattle.reply.specs.declared.NextLine.{NextLine}
 abbrev pub end_at : List ℕ → ℕ → ℕ
 end_at s at = at + before 10 (drop at s)
 
-unfoldable pub next_line : List ℕ → ℕ → NextLine
-next_line s at = cond (ltb (end_at s at) (length s)) (NextLine.Text at (end_at s at) (end_at s at + 1)) NextLine.End
+-- it stands from a up to e, and the next one starts at x
+abbrev pub line_to : ℕ → ℕ → ℕ → Option NextLine
+line_to a e x = Some (record { start = a; end = e; next = x })
+
+abbrev pub none_left : Option NextLine
+none_left = None
+
+unfoldable pub next_line : List ℕ → ℕ → Option NextLine
+next_line s at = cond (ltb (end_at s at) (length s)) (line_to at (end_at s at) (end_at s at + 1)) none_left
 
 -- where a reader stands after a line; with no line left, where it stood
-unfoldable pub place_after : NextLine → ℕ → ℕ
-place_after (NextLine.Text start end next) at = next
-place_after NextLine.End at = at
+unfoldable pub place_after : Option NextLine → ℕ → ℕ
+place_after (Some line) at = line.next
+place_after None at = at
 
 -- a new reader r stands over the reply s, at its first line
 pub record Begins (s : Bor (List ℕ)) (r : LineReader) : Type 0 where
@@ -24,7 +31,7 @@ pub record Begins (s : Bor (List ℕ)) (r : LineReader) : Type 0 where
   pub place : r.at ≡ 0
 
 -- the reader h serves the line l and is then r, over the same reply
-pub record Serves (h : LineReader) (l : NextLine) (r : LineReader) : Type 0 where
+pub record Serves (h : LineReader) (l : Option NextLine) (r : LineReader) : Type 0 where
   pub line : l ≡ next_line h.reply.now h.at
   pub over : r.reply ≡ h.reply
   pub place : r.at ≡ place_after (next_line h.reply.now h.at) h.at

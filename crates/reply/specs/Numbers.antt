@@ -1,12 +1,13 @@
 -- 01, Packages and replies: the rows as numbers, four a row, for a caller who lends numbers and no rows. "Rows past
 -- the last are unchanged". Assumes nothing.
+use Rattle.std.proofs.Common.{ap}
+use Rattle.std.specs.Prelude.{Ok, Err}
 use Rattle.std.specs.Prelude.{◌≡◌, cond, List, [], ◌∷◌, ◌++◌, ℕ, ◌+◌, ◌*◌, ◌/◌, eqb, ltb, length, get_or}
 use Rattle.text.specs.Put.{put}
 use Rattle.reply_line.specs.declared.RowKind.{RowKind}
 use Rattle.reply_line.specs.Line.{letter_of}
-use Rattle.reply.specs.declared.Answer.{Answer}
 use Rattle.reply.specs.declared.Row.{Row}
-use Rattle.reply.specs.Reply.{verdict, meaning, outcome_of}
+use Rattle.reply.specs.Reply.{Answer, verdict, meaning, outcome_of}
 use Rattle.reply.specs.Rows.{script_row, rows_of}
 
 -- a row's numbers: the letter of its kind, its code, its parent row, its packages
@@ -22,11 +23,14 @@ listed (r ∷ rows) = four_of r ++ listed rows
 abbrev pub room_in : List ℕ → ℕ
 room_in lent = length lent / 4
 
+pub same_room : (xs ys : List ℕ) → length xs ≡ length ys → room_in xs ≡ room_in ys
+same_room xs ys same = ap (λ (n : ℕ). n / 4) same
+
 -- what becomes of the lent numbers: read, the rows' in front and the others as they were; refused, all as they were
 unfoldable pub numbers_after : Answer → List Row → List ℕ → List ℕ
 unfolding listed
-numbers_after (Answer.Read code used count) rows lent = put lent 0 (listed rows)
-numbers_after (Answer.Refused why line) rows lent = lent
+numbers_after (Ok read) rows lent = put lent 0 (listed rows)
+numbers_after (Err refused) rows lent = lent
 
 unfoldable pub numbers_of : List ℕ → List ℕ → List ℕ
 unfolding numbers_after verdict rows_of

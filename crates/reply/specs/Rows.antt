@@ -1,16 +1,16 @@
 -- 01, Packages and replies: the rows. "row 0 is the script, then one row a loop in opening order, with kind, code,
 -- parent row and packages directly inside"; and one row a scan, as 02 has it. Assumes nothing.
+use Rattle.std.specs.Prelude.{Ok, Err}
 use Rattle.std.specs.Prelude.{◌≡◌, List, [], ◌∷◌, ◌++◌, ℕ, ◌+◌, length, get_or, set, drop, replicate}
 use Rattle.text.specs.Cut.{lines}
 use Rattle.reply_line.specs.declared.RowKind.{RowKind}
 use Rattle.reply_line.specs.declared.Line.{Line}
 use Rattle.reply_line.specs.Line.{line_at}
-use Rattle.reply_step.specs.declared.Move.{Move}
+use Rattle.reply_step.specs.Move.{Move}
 use Rattle.reply_step.specs.Step.{Open, begun, step}
 use Rattle.reply.specs.declared.Row.{Row}
-use Rattle.reply.specs.declared.Answer.{Answer}
 use Rattle.reply.specs.declared.RowTable.{RowTable}
-use Rattle.reply.specs.Reply.{verdict, Outcome, meaning, outcome_of}
+use Rattle.reply.specs.Reply.{Answer, verdict, Outcome, meaning, outcome_of}
 
 -- the script's row, its own parent, "S and L have code 0000"
 abbrev pub script_row : Row
@@ -70,8 +70,8 @@ over rows ys = rows ++ drop (length rows) ys
 
 unfoldable pub lent_after : Answer → List Row → List Row → List Row
 unfolding over
-lent_after (Answer.Read code used count) rows ys = over rows ys
-lent_after (Answer.Refused why line) rows ys = ys
+lent_after (Ok read) rows ys = over rows ys
+lent_after (Err refused) rows ys = ys
 
 unfoldable pub table_of : List ℕ → List Row → List Row
 unfolding lent_after verdict rows_of

@@ -1,15 +1,15 @@
 // A reply: the verdict on the whole, the rows that the caller lends, and a reader of lines.
 #![tactic(auto)]
 
-ghost use Rattle.std.specs.Prelude.{◌≡◌, get_or};
+ghost use Rattle.std.specs.Prelude.{◌≡◌, ◌<◌, ℕ, List, get_or, length, slice_set};
 ghost use Rattle.reply.specs.Reply.{verdict, meaning, outcome_of};
 ghost use Rattle.reply.specs.Rows.{script_row, ReadRows, table_meaning, read_table};
 ghost use Rattle.reply.specs.Lines.{next_line, place_after, Begins, Serves};
 ghost use Rattle.reply.specs.Code.{seen_at, place_by, one_more, raised_row, change, change_by};
-ghost use Rattle.reply.specs.Code.{start_in, place_in, turned};
+ghost use Rattle.reply.specs.Code.{begun_at, memory, place_in, turned, Passed};
 
 use reply_line::{Line, Refusal, RowKind};
-use reply_step::Move;
+use reply_step::Step;
 
 pub mod numbers;
 
@@ -36,85 +36,79 @@ const SCRIPT_ROW: Row = Row {
     packages: 0,
 };
 
-// A refusal has its line, from 1; 0 where there is none.
+// Of a reply that is read: the code of its last line, the bytes used, and how many rows there are.
 #[derive(Clone, Copy)]
-pub enum Answer {
-    Read { code: u32, used: usize, rows: usize },
-    Refused(Refusal, usize),
+pub struct Read {
+    pub code: u32,
+    pub used: usize,
+    pub rows: usize,
 }
 
 // The next line of a reply: where its bytes stand, and where the one after it starts.
 #[derive(Clone, Copy)]
-pub enum NextLine {
-    Text {
-        start: usize,
-        end: usize,
-        next: usize,
-    },
-    End,
+pub struct NextLine {
+    pub start: usize,
+    pub end: usize,
+    pub next: usize,
 }
 
 // ---- the verdict: a pass that writes nothing
 
 // The line that starts at a place. Bytes after the last newline are no line.
 #[tactic(auto, unfolding(crate::specs::Lines::next_line))]
-fn next_line(reply: &[u8], at: usize) -> NextLine
+fn next_line(reply: &[u8], at: usize) -> Option<NextLine>
     ensures { result ≡ next_line reply.now at }
 {
     let e = text::next_byte(reply, at, b'\n');
     if e < reply.len() {
-        NextLine::Text {
+        Some(NextLine {
             start: at,
             end: e,
             next: e + 1,
-        }
+        })
     } else {
-        NextLine::End
+        None
     }
 }
 
-// The verdict on a whole reply, for a table of n rows. Nothing is written.
-#[tactic(auto, using(crate::proofs::Lines::stands))]
-fn judge(reply: &[u8], n: usize) -> Answer
+// The verdict on a whole reply, for a table of n rows: a refusal has its line, from 1; one of the whole reply has 01's
+// line 0. Nothing is written. A step goes as far as its line is long, so no range counts the places.
+#[tactic(auto, using(crate::proofs::Lines::found))]
+fn judge(reply: &[u8], n: usize) -> Result<Read, (Refusal, usize)>
     ensures { result ≡ verdict n reply.now }
 {
     if MOST_BYTES < reply.len() {
-        return Answer::Refused(Refusal::TooLong, 0);
+        return Err((Refusal::TooLong, 0));
     }
     let mut st = reply_step::nothing_open();
     let mut at: usize = 0;
     let mut k: usize = 1;
-    while at < reply.len() {
-        let NextLine::Text { start, end, next } = next_line(reply, at) else {
-            return Answer::Refused(Refusal::NoEnding, k);
-        };
-        let line = reply_line::line_at(&reply[start..end], k, n);
-        let step = reply_step::step_of(line, st, n);
-        let to = step.to;
-        match to {
-            Move::On => {}
-            Move::Ends(v) => {
-                return Answer::Read {
-                    code: v,
-                    used: next,
-                    rows: st.rows,
-                };
+    while let Some(found) = next_line(reply, at) {
+        let line = reply_line::line_at(&reply[found.start..found.end], k, n);
+        match reply_step::step_of(line, st, n) {
+            Ok(Step::On(after)) => {
+                st = after;
+                at = found.next;
+                k += 1;
             }
-            Move::Refused(r) => {
-                return Answer::Refused(r, k);
+            Ok(Step::Ends(code)) => {
+                return Ok(Read {
+                    code,
+                    used: found.next,
+                    rows: st.rows,
+                });
+            }
+            Err(why) => {
+                return Err((why, k));
             }
         }
-        let after = step.state;
-        st = after;
-        at = next;
-        k += 1;
     }
-    Answer::Refused(Refusal::NoEnding, k)
+    Err((Refusal::NoEnding, k))
 }
 
 // The verdict on a whole reply, for a table of n rows that nobody need lend.
 #[tactic(auto, unfolding(crate::specs::Reply::outcome_of))]
-pub fn judge_reply(reply: &[u8], n: usize) -> Answer
+pub fn judge_reply(reply: &[u8], n: usize) -> Result<Read, (Refusal, usize)>
     ensures { meaning result ≡ outcome_of n reply.now }
 {
     judge(reply, n)
@@ -139,7 +133,6 @@ pub struct Stand {
     pub next: usize,
     pub holder: usize,
     pub rows: usize,
-    pub answer: Answer,
 }
 
 // What a line makes of the row that it is about, and of the place among the rows.
@@ -156,38 +149,19 @@ pub struct Turn {
     pub next: Stand,
 }
 
-#[tactic(auto, using(crate::proofs::Lines::stands, crate::proofs::Turns::seen_text, crate::proofs::Turns::seen_none))]
+#[tactic(auto, using(crate::proofs::Lines::found, crate::proofs::Turns::seen_found, crate::proofs::Turns::seen_none))]
 fn seen_at(reply: &[u8], pos: usize, end: usize) -> Seen
     ensures { result ≡ seen_at reply.now end pos }
 {
     match next_line(reply, pos) {
-        NextLine::Text { start, end, next } => {
-            let line = reply_line::known_line(&reply[start..end]);
-            Seen {
-                line: line,
-                next: next,
-            }
-        }
-        NextLine::End => Seen {
+        Some(found) => Seen {
+            line: reply_line::known_line(&reply[found.start..found.end]),
+            next: found.next,
+        },
+        None => Seen {
             line: Line::Quiet,
             next: end,
         },
-    }
-}
-
-// Which row a line is about: an opening mark the next free one, any other the innermost.
-#[tactic(auto, unfolding(crate::specs::Code::place_by))]
-fn place_by(line: Line, holder: usize, rows: usize) -> usize
-    ensures { result ≡ place_by line holder rows }
-{
-    match line {
-        Line::Opens(_, _) => rows,
-        Line::Quiet => holder,
-        Line::Empty => holder,
-        Line::Package => holder,
-        Line::Closes(_) => holder,
-        Line::Error(_) => holder,
-        Line::Refused(_) => holder,
     }
 }
 
@@ -203,148 +177,171 @@ fn one_more(count: usize) -> usize
 fn raised_row(old: Row) -> Row
     ensures { result ≡ raised_row old }
 {
-    let kind = old.kind;
-    let packages = one_more(old.packages);
-    Row {
-        kind: kind,
-        mark: old.mark,
-        parent: old.parent,
-        packages: packages,
-    }
+    let mut row = old;
+    row.packages = one_more(old.packages);
+    row
 }
 
 fn changed(row: Row, holder: usize, rows: usize) -> Change
     ensures { result ≡ change row holder rows }
 {
-    Change {
-        row: row,
-        holder: holder,
-        rows: rows,
+    Change { row, holder, rows }
+}
+
+// Where the second pass starts, over so many bytes: the first line opens the script's row.
+fn begin(reply: &[u8], used: usize) -> Stand
+    ensures { result ≡ begun_at reply.now used }
+{
+    Stand {
+        pos: 0,
+        end: used,
+        line: Line::Opens(RowKind::Script, 0),
+        next: seen_at(reply, 0, used).next,
+        holder: 0,
+        rows: 0,
     }
 }
 
-#[tactic(auto, unfolding(crate::specs::Code::change_by))]
-fn change_by(line: Line, holder: usize, rows: usize, old: Row) -> Change
-    ensures { result ≡ change_by line holder rows old }
-{
-    match line {
-        Line::Opens(k, v) => {
-            let more = one_more(rows);
-            let row = Row {
-                kind: k,
-                mark: v,
-                parent: holder,
-                packages: 0,
-            };
-            changed(row, rows, more)
+impl Stand {
+    // Which row the line is about: an opening mark the next free one, any other the innermost.
+    #[tactic(auto, unfolding(crate::specs::Code::place_by))]
+    fn place_by(self) -> usize
+        ensures { result ≡ place_by self.line self.holder self.rows }
+    {
+        match self.line {
+            Line::Opens(_, _) => self.rows,
+            _ => self.holder,
         }
-        Line::Closes(_) => changed(old, old.parent, rows),
-        Line::Package => {
-            let row = raised_row(old);
-            changed(row, holder, rows)
-        }
-        Line::Quiet => changed(old, holder, rows),
-        Line::Empty => changed(old, holder, rows),
-        Line::Error(_) => changed(old, holder, rows),
-        Line::Refused(_) => changed(old, holder, rows),
     }
-}
 
-// The verdict, and where the second pass starts: the first line opens the script's row. A reply that is refused has
-// nothing left to read.
-#[tactic(auto, using(crate::proofs::Turns::begins, crate::proofs::Turns::begins_refused))]
-fn begin(reply: &[u8], n: usize) -> Stand
-    ensures { result ≡ start_in reply.now n }
-{
-    let answer = judge(reply, n);
-    match answer {
-        Answer::Read {
-            code: _,
-            used,
-            rows: _,
-        } => {
-            let seen = seen_at(reply, 0, used);
-            Stand {
-                pos: 0,
-                end: used,
-                line: Line::Opens(RowKind::Script, 0),
-                next: seen.next,
-                holder: 0,
-                rows: 0,
-                answer: answer,
+    // Which of n rows that is.
+    #[tactic(auto, unfolding(crate::specs::Code::place_in))]
+    fn place_in(self, n: usize) -> usize
+        ensures { result ≡ place_in self n }
+    {
+        let p = self.place_by();
+        if p < n { p } else { 0 }
+    }
+
+    // What that row is to be.
+    #[tactic(auto, unfolding(crate::specs::Code::change_by))]
+    fn change_by(self, old: Row) -> Change
+        ensures { result ≡ change_by self.line self.holder self.rows old }
+    {
+        match self.line {
+            Line::Opens(kind, mark) => {
+                let row = Row {
+                    kind,
+                    mark,
+                    parent: self.holder,
+                    packages: 0,
+                };
+                changed(row, self.rows, one_more(self.rows))
             }
+            Line::Closes(_) => changed(old, old.parent, self.rows),
+            Line::Package => changed(raised_row(old), self.holder, self.rows),
+            _ => changed(old, self.holder, self.rows),
         }
-        Answer::Refused(_, _) => Stand {
-            pos: 0,
-            end: 0,
-            line: Line::Quiet,
-            next: 0,
-            holder: 0,
-            rows: 0,
-            answer: answer,
-        },
+    }
+
+    // The row, and where the pass stands then.
+    #[tactic(auto, unfolding(crate::specs::Code::turned))]
+    fn take_turn(self, reply: &[u8], old: Row) -> Turn
+        ensures { result ≡ turned reply.now self old }
+    {
+        let change = self.change_by(old);
+        let seen = seen_at(reply, self.next, self.end);
+        Turn {
+            row: change.row,
+            next: Stand {
+                pos: self.next,
+                end: self.end,
+                line: seen.line,
+                next: seen.next,
+                holder: change.holder,
+                rows: change.rows,
+            },
+        }
     }
 }
 
-// Which of n rows the line at a stand is about.
-#[tactic(auto, unfolding(crate::specs::Code::place_in))]
-fn place_in(st: Stand, n: usize) -> usize
-    ensures { result ≡ place_in st n }
-{
-    let line = st.line;
-    let p = place_by(line, st.holder, st.rows);
-    if p < n { p } else { 0 }
+// ---- what rows are kept in
+
+// Rows side by side: how many have room, how one is read, and how one is put.
+trait Keep: Copy {
+    ghost use Rattle.reply.specs.declared.Row.{Row};
+
+    ghost room: { List Self → ℕ };
+
+    ghost got: { List Self → ℕ → Row };
+
+    ghost put: { List Self → ℕ → Row → List Self };
+
+    fn room(lent: &[Self]) -> usize
+        ensures { result ≡ room lent.now };
+
+    fn row_in(lent: &[Self], at: usize) -> Row
+        requires { at < room lent.now }
+        ensures { result ≡ got lent.now at };
+
+    fn put_row(lent: &mut [Self], at: usize, row: Row)
+        requires { at < room lent.old }
+        ensures { lent.new ≡ put lent.old at row };
+
+    ghost keeps_room: { (xs ys : List Self) → length xs ≡ length ys → room xs ≡ room ys };
 }
 
-// What that row is to be, and where the pass then stands.
-#[tactic(auto, unfolding(crate::specs::Code::turned))]
-fn take_turn(reply: &[u8], st: Stand, old: Row) -> Turn
-    ensures { result ≡ turned reply.now st old }
-{
-    let line = st.line;
-    let answer = st.answer;
-    let change = change_by(line, st.holder, st.rows, old);
-    let row = change.row;
-    let seen = seen_at(reply, st.next, st.end);
-    let ahead = seen.line;
-    Turn {
-        row: row,
-        next: Stand {
-            pos: st.next,
-            end: st.end,
-            line: ahead,
-            next: seen.next,
-            holder: change.holder,
-            rows: change.rows,
-            answer: answer,
-        },
+impl Keep for Row {
+    ghost room = { λ rows. length rows };
+
+    ghost got = { λ rows at. get_or rows at script_row };
+
+    ghost put = { λ rows at row. slice_set rows at row };
+
+    ghost keeps_room = { λ xs ys same. same };
+
+    fn room(lent: &[Row]) -> usize {
+        lent.len()
+    }
+
+    fn row_in(lent: &[Row], at: usize) -> Row {
+        lent[at]
+    }
+
+    fn put_row(lent: &mut [Row], at: usize, row: Row) {
+        lent[at] = row;
     }
 }
-
-// ---- rows
 
 // The whole: the verdict first, then one store a line.
 #[tactic(auto, using(crate::proofs::Turns::place_below))]
-pub fn read_reply(reply: &[u8], rows: &mut [Row]) -> Answer
-    ensures { ReadRows reply.now rows.old result rows.new }
+fn read_into<K: Keep>(reply: &[u8], lent: &mut [K]) -> Result<Read, (Refusal, usize)>
+    ensures { Passed (memory K.got K.put) (K.room lent.old) reply.now lent.old result lent.new }
 {
-    let n = rows.len();
-    let mut st = begin(reply, n);
+    let n = K::room(lent);
+    let read = judge(reply, n)?;
+    let mut st = begin(reply, read.used);
     while st.pos < st.end {
-        let at = place_in(st, n);
-        let old = rows[at];
-        let t = take_turn(reply, st, old);
-        rows[at] = t.row;
+        let at = st.place_in(n);
+        let t = st.take_turn(reply, K::row_in(lent, at));
+        K::put_row(lent, at, t.row);
         st = t.next;
     }
-    st.answer
+    Ok(read)
+}
+
+// A reply read into rows.
+pub fn read_reply(reply: &[u8], rows: &mut [Row]) -> Result<Read, (Refusal, usize)>
+    ensures { ReadRows reply.now rows.old result rows.new }
+{
+    read_into(reply, rows)
 }
 
 // What a table of 1,024 rows holds after a reply is read into it.
 #[derive(Clone, Copy)]
 pub struct RowTable {
     pub rows: [Row; TABLE_ROWS],
-    pub answer: Answer,
+    pub answer: Result<Read, (Refusal, usize)>,
 }
 
 // The same by value, for those who lend no table of their own.
@@ -354,10 +351,7 @@ pub fn read_table(reply: &[u8]) -> RowTable
 {
     let mut rows = [SCRIPT_ROW; TABLE_ROWS];
     let answer = read_reply(reply, &mut rows);
-    RowTable {
-        rows: rows,
-        answer: answer,
-    }
+    RowTable { rows, answer }
 }
 
 // A row of the table, or the script's where there is no such place.
@@ -383,16 +377,12 @@ pub struct LineReader<'a> {
 
 // Where a reader stands after a line; with no line left, where it stood.
 #[tactic(auto, unfolding(crate::specs::Lines::place_after))]
-fn place_after(line: NextLine, at: usize) -> usize
+fn place_after(line: Option<NextLine>, at: usize) -> usize
     ensures { result ≡ place_after line at }
 {
     match line {
-        NextLine::Text {
-            start: _,
-            end: _,
-            next,
-        } => next,
-        NextLine::End => at,
+        Some(found) => found.next,
+        None => at,
     }
 }
 
@@ -400,15 +390,12 @@ fn place_after(line: NextLine, at: usize) -> usize
 pub fn lines_of<'a>(reply: &'a [u8]) -> LineReader<'a>
     ensures { Begins reply.entry result }
 {
-    LineReader {
-        reply: reply,
-        at: 0,
-    }
+    LineReader { reply, at: 0 }
 }
 
 impl<'a> LineReader<'a> {
     // The line at the reader's place, which then is that of the one after it.
-    pub fn next<'s>(&'s mut self) -> NextLine
+    pub fn next<'s>(&'s mut self) -> Option<NextLine>
         ensures { Serves self.old result self.new }
     {
         let at = self.at;

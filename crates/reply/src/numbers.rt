@@ -1,37 +1,31 @@
 // The rows of a reply as numbers, four a row, put in front of numbers that the caller lends.
 ghost use Rattle.std.specs.Prelude.{◌≡◌, ◌+◌, ◌*◌, ◌≤◌, length};
-ghost use Rattle.reply.specs.Numbers.{ReadNumbers, kind_of, row_at, row_in};
+ghost use Rattle.reply.specs.Numbers.{ReadNumbers, kind_of, room_in, row_at, row_in, same_room};
 ghost use Rattle.reply.specs.Code.{low, put_row};
 
-use super::{Answer, Row};
-use reply_line::RowKind;
+use super::{Keep, Read, Row};
+use reply_line::{Refusal, RowKind};
 
 // The letter of its kind, its mark, its parent row, its packages.
 const NUMBERS_A_ROW: usize = 4;
 
 const OVER_32_BITS: usize = 4294967296;
 
-// The kind that has a letter; any other letter is the script's.
+// The kind that has a letter; any other letter is the script's. A TryFrom would have an error that nobody reads.
 #[tactic(auto, unfolding(crate::specs::Numbers::kind_of))]
 fn kind_of(letter: u32) -> RowKind
     ensures { result ≡ kind_of letter }
 {
-    if letter == reply_line::letter(RowKind::Sweep) as u32 {
+    if letter == u8::from(RowKind::Sweep) as u32 {
         return RowKind::Sweep;
     }
-    if letter == reply_line::letter(RowKind::Loop) as u32 {
+    if letter == u8::from(RowKind::Loop) as u32 {
         return RowKind::Loop;
     }
-    if letter == reply_line::letter(RowKind::Scan) as u32 {
+    if letter == u8::from(RowKind::Scan) as u32 {
         return RowKind::Scan;
     }
     RowKind::Script
-}
-
-fn wide(number: u32) -> usize
-    ensures { result ≡ number }
-{
-    number as usize
 }
 
 #[tactic(auto, unfolding(crate::specs::Numbers::row_at))]
@@ -40,12 +34,11 @@ fn row_at(numbers: &[u32], at: usize) -> Row
     ensures { result ≡ row_at numbers.now at }
 {
     let first = at * NUMBERS_A_ROW;
-    let kind = kind_of(numbers[first]);
     Row {
-        kind: kind,
+        kind: kind_of(numbers[first]),
         mark: numbers[first + 1],
-        parent: wide(numbers[first + 2]),
-        packages: wide(numbers[first + 3]),
+        parent: numbers[first + 2] as usize,
+        packages: numbers[first + 3] as usize,
     }
 }
 
@@ -74,31 +67,37 @@ fn put_row(numbers: &mut [u32], at: usize, row: Row)
     ensures { numbers.new ≡ put_row numbers.old at row }
 {
     let first = at * NUMBERS_A_ROW;
-    let kind = row.kind;
-    let letter = reply_line::letter(kind) as u32;
-    let parent = low(row.parent);
-    let packages = low(row.packages);
-    numbers[first] = letter;
+    numbers[first] = u8::from(row.kind) as u32;
     numbers[first + 1] = row.mark;
-    numbers[first + 2] = parent;
-    numbers[first + 3] = packages;
+    numbers[first + 2] = low(row.parent);
+    numbers[first + 3] = low(row.packages);
+}
+
+impl Keep for u32 {
+    ghost room = { λ numbers. room_in numbers };
+
+    ghost got = { λ numbers at. row_in numbers at };
+
+    ghost put = { λ numbers at row. put_row numbers at row };
+
+    ghost keeps_room = { λ xs ys same. same_room xs ys same };
+
+    fn room(lent: &[u32]) -> usize {
+        lent.len() / NUMBERS_A_ROW
+    }
+
+    fn row_in(lent: &[u32], at: usize) -> Row {
+        row_in(lent, at)
+    }
+
+    fn put_row(lent: &mut [u32], at: usize, row: Row) {
+        put_row(lent, at, row);
+    }
 }
 
 // As `read_reply`, into as many rows as the numbers have room for.
-pub fn read_numbers(reply: &[u8], numbers: &mut [u32]) -> Answer
+pub fn read_numbers(reply: &[u8], numbers: &mut [u32]) -> Result<Read, (Refusal, usize)>
     ensures { ReadNumbers reply.now numbers.old result numbers.new }
 {
-    let n = numbers.len() / NUMBERS_A_ROW;
-    let mut st = super::begin(reply, n);
-    while st.pos < st.end {
-        let at = super::place_in(st, n);
-        let old = row_in(numbers, at);
-        let t = super::take_turn(reply, st, old);
-        let row = t.row;
-        put_row(numbers, at, row);
-        let next = t.next;
-        st = next;
-    }
-    let answer = st.answer;
-    answer
+    super::read_into(reply, numbers)
 }

@@ -1,4 +1,5 @@
 -- Laws of a line: by its first byte; judged and known. Assumes nothing.
+use Rattle.std.proofs.Common.{Some, None, Err}
 use borrow.Author.Tests.{eq-eqb, eqb-false, eqb-true, le-leb, ne_eqb}
 use lib.Dec.{eqb, leb}
 use lib.ListN.{drop, get_or, length}
@@ -8,8 +9,9 @@ use mathlib.Core.Logic.{◌⊎◌, inl, inr}
 use mathlib.Core.Path.{◌≡◌, refl, sym}
 use native.Mathlib.Omega.{arith}
 use Prim.Native.Nat.{ℕ, ◌+◌, ◌≤◌}
-use Rattle.package.specs.Package.{Verdict, package_of, verdict_of}
-use Rattle.reply_line.specs.Code.{later_by, package_by}
+use Rattle.package.specs.declared.Refusal as packages
+use Rattle.package.specs.Package.{Verdict, meaning, number_of, package_of, verdict_of}
+use Rattle.reply_line.specs.Code.{later_by, of_package, package_by}
 use Rattle.reply_line.specs.declared.Line.{Line}
 use Rattle.reply_line.specs.declared.Refusal.{Refusal}
 use Rattle.reply_line.specs.Line.{by_first, later_line, later_rows, non_zero, package_line}
@@ -17,15 +19,14 @@ use Rattle.reply_line.specs.Line.{row_of, unknown}
 use Rattle.text.proofs.Keys.{Apart, also, none}
 use Rattle.text.specs.Bytes.{ascii}
 use Rattle.text.specs.Decimal.{digit_run, number_at}
-use Rattle.text.specs.declared.Hex.TheVariants as Hex
 
 -- ---- the code of an error
 
-pub zero_code : (v : ℕ) → v ≡ 0 → Hex.Bad ≡ non_zero (Hex.Number v)
+pub zero_code : (v : ℕ) → v ≡ 0 → None ≡ non_zero (Some v)
 unfolding non_zero
 zero_code v e = simp (eq-eqb v 0 e)
 
-pub other_code : (v : ℕ) → (v ≡ 0 → ⊥) → Hex.Number v ≡ non_zero (Hex.Number v)
+pub other_code : (v : ℕ) → (v ≡ 0 → ⊥) → Some v ≡ non_zero (Some v)
 unfolding non_zero
 other_code v n = simp (ne_eqb v 0 n)
 
@@ -62,6 +63,13 @@ no_row {c} (r ∷ rs) (also n a) = rw (ne_eqb c r.0 n) (no_row rs a)
 pub no_line : (pk : Line) (c : ℕ) (s : List ℕ) → Apart c (ascii "M*L+PThHYZeC-") → by_first pk c s ≡ unknown
 unfolding by_first
 no_line pk c s a = no_row (later_rows pk s) a
+
+-- ---- a package that is refused
+
+pub refused_package : (w : packages.Refusal) (k : ℕ) → Line.Refused (of_package w) ≡ package_line (meaning (Err (w, k)))
+unfolding of_package package_line meaning number_of
+refused_package packages.Refusal.BadPart k = refl
+refused_package packages.Refusal.TooManyParts k = refl
 
 -- ---- a line that is judged is the line
 

@@ -2,8 +2,15 @@
 -- a package is not read again. Assumes nothing.
 use Rattle.std.specs.Prelude.{leb, length, get_or, Bool, cond, List, ℕ}
 use Rattle.package.specs.Package.{verdict_of, package_of}
+use Rattle.package.specs.declared.Refusal as packages
 use Rattle.reply_line.specs.declared.Line.{Line}
+use Rattle.reply_line.specs.declared.Refusal.{Refusal}
 use Rattle.reply_line.specs.Line.{package_line, by_first}
+
+-- the refusal of a line, by that of its package
+unfoldable pub of_package : packages.Refusal → Refusal
+of_package packages.Refusal.BadPart = Refusal.BadPart
+of_package packages.Refusal.TooManyParts = Refusal.TooManyParts
 
 unfoldable pub package_by : Bool → List ℕ → Line
 package_by known s = cond known Line.Package (package_line (verdict_of (package_of s)))

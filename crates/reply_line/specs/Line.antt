@@ -1,4 +1,5 @@
 -- 01, Packages and replies, with 02's scans: what one line of a reply is, by itself. Assumes nothing.
+use Rattle.std.specs.Prelude.{Option, Some, None}
 use Rattle.std.specs.Prelude.{leb, ltb, eqb, length, get_or, drop, Bool, ◌&&◌, ◌||◌, cond, List, [], ◌∷◌, ℕ}
 use Rattle.package.specs.Package.{Verdict, verdict_of, package_of}
 use Rattle.reply_line.specs.declared.RowKind.{RowKind}
@@ -6,7 +7,6 @@ use Rattle.reply_line.specs.declared.Line.{Line}
 use Rattle.reply_line.specs.declared.Refusal.{Refusal}
 use Rattle.text.specs.Bytes.{byte}
 use Rattle.text.specs.Decimal.{digit_run}
-use Rattle.text.specs.declared.Hex.{Hex}
 use Rattle.text.specs.Hex.{read_hex}
 
 -- ---- the table of numbers
@@ -33,29 +33,29 @@ unknown = Line.Refused Refusal.UnknownLine
 
 -- ---- "an error line `e!hhhh`, not 0000, alone or followed by `: ` and anything"
 
-unfoldable pub non_zero : Hex → Hex
-non_zero (Hex.Number v) = cond (eqb v 0) Hex.Bad (Hex.Number v)
-non_zero Hex.Bad = Hex.Bad
+unfoldable pub non_zero : Option ℕ → Option ℕ
+non_zero (Some v) = cond (eqb v 0) None (Some v)
+non_zero None = None
 
 unfoldable pub ends_error : List ℕ → Bool
 ends_error s =
     leb (length s) 6 || (eqb (get_or s 6 0) (byte ":") && (leb 8 (length s) && eqb (get_or s 7 0) (byte " ")))
 
-unfoldable pub error_code : List ℕ → Hex
+unfoldable pub error_code : List ℕ → Option ℕ
 unfolding non_zero ends_error
 error_code s =
     cond (leb 6 (length s) && (eqb (get_or s 0 0) (byte "e") && (eqb (get_or s 1 0) (byte "!") && ends_error s)))
-    (non_zero (read_hex 4 s 2)) Hex.Bad
+    (non_zero (read_hex 4 s 2)) None
 
 -- ---- "A reply's first line is `e`, or an error line"; row 0 of the n rows belongs to it
 
 unfoldable pub with_row : ℕ → Line → Line
 with_row n l = cond (ltb 0 n) l (Line.Refused Refusal.ShortTable)
 
-unfoldable pub first_error : ℕ → Hex → Line
+unfoldable pub first_error : ℕ → Option ℕ → Line
 unfolding with_row
-first_error n (Hex.Number v) = with_row n (Line.Error v)
-first_error n Hex.Bad = unknown
+first_error n (Some v) = with_row n (Line.Error v)
+first_error n None = unknown
 
 unfoldable pub is_e : List ℕ → Bool
 is_e s = eqb (length s) 1 && eqb (get_or s 0 0) (byte "e")
@@ -71,9 +71,9 @@ unfoldable pub alone_in : List ℕ → Line → Line
 alone_in s l = cond (eqb (length s) 1) l unknown
 
 -- "`M` and four hex opens a measuring loop"
-unfoldable pub mark_of : Hex → Line
-mark_of (Hex.Number v) = Line.Opens RowKind.Sweep v
-mark_of Hex.Bad = unknown
+unfoldable pub mark_of : Option ℕ → Line
+mark_of (Some v) = Line.Opens RowKind.Sweep v
+mark_of None = unknown
 
 unfoldable pub mark_line : List ℕ → Line
 unfolding mark_of
@@ -94,9 +94,9 @@ package_line v =
     cond (eqb v.number 0) Line.Package
     (cond (eqb v.number 40) (Line.Refused Refusal.BadPart) (Line.Refused Refusal.TooManyParts))
 
-unfoldable pub later_error : Hex → Line
-later_error (Hex.Number v) = Line.Error v
-later_error Hex.Bad = unknown
+unfoldable pub later_error : Option ℕ → Line
+later_error (Some v) = Line.Error v
+later_error None = unknown
 
 -- a row for each first byte; `pk` is what a package comes to
 abbrev pub later_rows : Line → List ℕ → List (ℕ × Line)

@@ -4,16 +4,14 @@
 ghost use Rattle.std.specs.Prelude.{◌≡◌, true};
 ghost use Rattle.reply_line.specs.Line.{number_of, letter_of, ends_error, error_code, is_e, first_line};
 ghost use Rattle.reply_line.specs.Line.{alone_in, mark_line, has_cycle, scan_line, package_line, later_error, line_at};
-ghost use Rattle.reply_line.specs.Code.{later_by};
+ghost use Rattle.reply_line.specs.Code.{later_by, of_package};
 ghost use Rattle.package.specs.Package.{verdict_of, package_of};
-
-use text::Hex;
 
 // A letter and four digits.
 const WITH_DIGITS: usize = 5;
 
 // The kinds of rows: the script, the kinds of loops, and a scan of a measuring loop.
-#[derive(Clone, Copy)]
+#[derive(Clone, Copy, PartialEq, Eq)]
 pub enum RowKind {
     Script,
     Sweep,
@@ -33,6 +31,8 @@ pub enum Refusal {
     TooLong,
 }
 
+// A refused line is a kind among the others: each first byte has one value in one table, `step_of` makes it an Err in
+// one arm, and the second pass, which meets none, has no way out to write.
 #[derive(Clone, Copy)]
 pub enum Line {
     // Text, a single letter, or the first line's `e`.
@@ -46,32 +46,49 @@ pub enum Line {
 }
 
 // 01's number of a refusal.
-#[tactic(auto, unfolding(crate::specs::Line::number_of))]
-pub fn number(refusal: Refusal) -> u8
-    ensures { result ≡ number_of refusal }
-{
-    match refusal {
-        Refusal::BadPart => 40,
-        Refusal::TooManyParts => 41,
-        Refusal::NoEnding => 50,
-        Refusal::UnknownLine => 51,
-        Refusal::OutOfPlace => 52,
-        Refusal::NinthOpen => 53,
-        Refusal::ShortTable => 54,
-        Refusal::TooLong => 55,
+impl From<Refusal> for u8 {
+    ghost from_gives = { λ why result. result ≡ number_of why };
+
+    #[tactic(auto, unfolding(crate::specs::Line::number_of))]
+    fn from(why: Refusal) -> u8 {
+        match why {
+            Refusal::BadPart => 40,
+            Refusal::TooManyParts => 41,
+            Refusal::NoEnding => 50,
+            Refusal::UnknownLine => 51,
+            Refusal::OutOfPlace => 52,
+            Refusal::NinthOpen => 53,
+            Refusal::ShortTable => 54,
+            Refusal::TooLong => 55,
+        }
     }
 }
 
 // The letter of a row: S for the script, M for a measuring loop, L for a loop, C for a scan.
-#[tactic(auto, unfolding(crate::specs::Line::letter_of))]
-pub fn letter(kind: RowKind) -> u8
-    ensures { result ≡ letter_of kind }
-{
-    match kind {
-        RowKind::Script => b'S',
-        RowKind::Sweep => b'M',
-        RowKind::Loop => b'L',
-        RowKind::Scan => b'C',
+impl From<RowKind> for u8 {
+    ghost from_gives = { λ kind result. result ≡ letter_of kind };
+
+    #[tactic(auto, unfolding(crate::specs::Line::letter_of))]
+    fn from(kind: RowKind) -> u8 {
+        match kind {
+            RowKind::Script => b'S',
+            RowKind::Sweep => b'M',
+            RowKind::Loop => b'L',
+            RowKind::Scan => b'C',
+        }
+    }
+}
+
+// A package's refusal is that of its line.
+impl From<package::Refusal> for Refusal {
+    ghost from_gives = { λ why result. result ≡ of_package why };
+
+    #[tactic(auto, unfolding(crate::specs::Code::of_package))]
+    fn from(why: package::Refusal) -> Refusal {
+        match why {
+            package::Refusal::BadPart => Refusal::BadPart,
+            package::Refusal::TooManyParts => Refusal::TooManyParts,
+        }
     }
 }
 
@@ -80,43 +97,25 @@ pub fn letter(kind: RowKind) -> u8
 fn ends_error(s: &[u8]) -> bool
     ensures { result ≡ ends_error s.now }
 {
-    if s.len() <= 6 {
-        return true;
-    }
-    if s[6] != b':' {
-        return false;
-    }
-    if 8 <= s.len() { s[7] == b' ' } else { false }
+    s.len() <= 6 || s[6] == b':' && 8 <= s.len() && s[7] == b' '
 }
 
 #[tactic(auto, unfolding(crate::specs::Line::error_code, crate::specs::Line::non_zero))]
-fn error_code(s: &[u8]) -> Hex
+fn error_code(s: &[u8]) -> Option<u32>
     ensures { result ≡ error_code s.now }
 {
-    if 6 <= s.len() {
-        if s[0] != b'e' {
-            return Hex::Bad;
-        }
-        if s[1] != b'!' {
-            return Hex::Bad;
-        }
-        if !ends_error(s) {
-            return Hex::Bad;
-        }
-        match text::hex_at(s, 2, 4) {
-            Hex::Number(v) => { if v == 0 { Hex::Bad } else { Hex::Number(v) } }
-            Hex::Bad => Hex::Bad,
-        }
-    } else {
-        Hex::Bad
+    if s.len() < 6 || s[0] != b'e' || s[1] != b'!' || !ends_error(s) {
+        return None;
     }
+    let code = text::hex_at(s, 2, 4)?;
+    if code == 0 { None } else { Some(code) }
 }
 
 #[tactic(auto, unfolding(crate::specs::Line::is_e))]
 fn is_e(s: &[u8]) -> bool
     ensures { result ≡ is_e s.now }
 {
-    if s.len() == 1 { s[0] == b'e' } else { false }
+    s.len() == 1 && s[0] == b'e'
 }
 
 // The first line, to which row 0 of the n rows belongs.
@@ -131,14 +130,14 @@ fn first_line(s: &[u8], n: usize) -> Line
         return Line::Refused(Refusal::ShortTable);
     }
     match error_code(s) {
-        Hex::Number(v) => {
+        Some(v) => {
             if 0 < n {
                 Line::Error(v)
             } else {
                 Line::Refused(Refusal::ShortTable)
             }
         }
-        Hex::Bad => Line::Refused(Refusal::UnknownLine),
+        None => Line::Refused(Refusal::UnknownLine),
     }
 }
 
@@ -160,8 +159,8 @@ fn mark_line(s: &[u8]) -> Line
 {
     if s.len() == WITH_DIGITS {
         match text::hex_at(s, 1, 4) {
-            Hex::Number(v) => Line::Opens(RowKind::Sweep, v),
-            Hex::Bad => Line::Refused(Refusal::UnknownLine),
+            Some(v) => Line::Opens(RowKind::Sweep, v),
+            None => Line::Refused(Refusal::UnknownLine),
         }
     } else {
         Line::Refused(Refusal::UnknownLine)
@@ -173,11 +172,7 @@ fn mark_line(s: &[u8]) -> Line
 fn has_cycle(s: &[u8]) -> bool
     ensures { result ≡ has_cycle s.now }
 {
-    if s.len() != WITH_DIGITS {
-        return false;
-    }
-    let cycle = text::decimal_at(s, 1);
-    cycle.next == WITH_DIGITS
+    s.len() == WITH_DIGITS && text::decimal_at(s, 1).next == WITH_DIGITS
 }
 
 #[tactic(auto, unfolding(crate::specs::Line::scan_line))]
@@ -194,11 +189,8 @@ fn package_line(s: &[u8]) -> Line
     ensures { result ≡ package_line (verdict_of (package_of s.now)) }
 {
     match package::judge_package(s) {
-        package::Answer::Read => Line::Package,
-        package::Answer::Refused(why, _) => match why {
-            package::Refusal::BadPart => Line::Refused(Refusal::BadPart),
-            package::Refusal::TooManyParts => Line::Refused(Refusal::TooManyParts),
-        },
+        Ok(_) => Line::Package,
+        Err((why, _)) => Line::Refused(Refusal::from(why)),
     }
 }
 
@@ -207,8 +199,8 @@ fn error_line(s: &[u8]) -> Line
     ensures { result ≡ later_error (error_code s.now) }
 {
     match error_code(s) {
-        Hex::Number(v) => Line::Error(v),
-        Hex::Bad => Line::Refused(Refusal::UnknownLine),
+        Some(v) => Line::Error(v),
+        None => Line::Refused(Refusal::UnknownLine),
     }
 }
 
@@ -218,8 +210,7 @@ fn later_line(s: &[u8], known: bool) -> Line
     ensures { result ≡ later_by known s.now }
 {
     if 1 <= s.len() {
-        let c = s[0];
-        match c {
+        match s[0] {
             b'M' => mark_line(s),
             b'*' => alone(s, Line::Closes(RowKind::Sweep)),
             b'L' => alone(s, Line::Opens(RowKind::Loop, 0)),
@@ -232,6 +223,7 @@ fn later_line(s: &[u8], known: bool) -> Line
                 }
             }
             b'T' => Line::Quiet,
+            // Four arms: joined by `|` they tell the proof nothing of the byte.
             b'h' => alone(s, Line::Quiet),
             b'H' => alone(s, Line::Quiet),
             b'Y' => alone(s, Line::Quiet),

@@ -9,7 +9,7 @@ use Rattle.laws.proofs.Apart.{apart}
 use Rattle.reply_line.specs.declared.Line.{Line}
 use Rattle.reply_line.specs.declared.Refusal.{Refusal}
 use Rattle.reply_line.specs.declared.RowKind.{RowKind}
-use Rattle.reply_step.specs.declared.Move.TheVariants as Move
+use Rattle.reply_step.specs.Move as Move
 use Rattle.reply_step.specs.Step.{Open, Next, goes, refused, may_open, closes, most_open, opened, closed}
 use Rattle.reply_step.specs.Step.{step}
 

@@ -1,3 +1,4 @@
+pub mod Move
 pub mod Step
 pub mod Meaning
 pub mod Code

@@ -4,7 +4,7 @@ use Rattle.reply_line.specs.declared.RowKind.{RowKind}
 use Rattle.reply_line.specs.declared.Refusal.{Refusal}
 use Rattle.reply_line.specs.declared.Line.{Line}
 use Rattle.reply_line.specs.Line.{letter_of}
-use Rattle.reply_step.specs.declared.Move.{Move}
+use Rattle.reply_step.specs.Move.{Move}
 
 -- the kinds of what is open, innermost first, and how many rows there are
 pub record Open : Type 0 where

@@ -1,4 +1,5 @@
 -- Every mark of an accepted table has its mate. Assumes nothing.
+use Rattle.std.proofs.Common.{None}
 use Prim.Native.Nat.{ℕ, zero, suc, ◌+◌, ◌<◌}
 use mathlib.Core.Path.{◌≡◌, refl, sym, ap, ◌∙◌, subst}
 use mathlib.Core.Bool.{Bool, true, false, not, ◌&&◌, ◌||◌, cond}
@@ -12,7 +13,6 @@ use borrow.Author.Tests.{eq-eqb}
 use Rattle.laws.proofs.Bools.{no}
 use Rattle.table.specs.declared.Item.{Item}
 use Rattle.table.specs.declared.Table.{Table}
-use Rattle.table.specs.declared.Known.TheVariants as Known
 use Rattle.table.specs.Item.{is_open, is_branch, is_close, fits}
 use Rattle.table.specs.ReadWrite.{Kinds, lowest}
 use Rattle.table.specs.Shape.{items_of, in_shape}
@@ -175,7 +175,7 @@ module _ (k : Kinds) where
       (closing_at j (suc i) (after i s x) xs (one i s x xs e).1 (le_of_suc-le-suc h) m))
 
 abbrev kinds : Table → Kinds
-kinds t = kinds_of (replicate 32 Known.Unknown) (items_of t)
+kinds t = kinds_of (replicate 32 None) (items_of t)
 
 pub accepted_mated : (size : ℕ) (t : Table) → verdict size t ≡ accepted → Mated (items_of t)
 unfolding verdict

@@ -6,8 +6,8 @@ use mathlib.Core.List.{List, [], ◌∷◌}
 use native.Mathlib.Nat.{not-suc-le-zero, le_of_suc-le-suc}
 use native.Mathlib.Omega.{arith}
 use lib.Dec.{eqb, leb}
-use lib.ListN.{length, get_or, set, length-set}
-use lib.Seq.{get_or-set_same, get_or-set_other}
+use lib.ListN.{length, get_or, set, take, length-set, length-take}
+use lib.Seq.{get_or-set_same, get_or-set_other, get_or-take}
 use borrow.Author.Tests.{eqb-true, eqb-false, leb-true}
 use Rattle.laws.proofs.Bools.{and_l, and_r}
 use Rattle.table.specs.declared.Item.{Item}
@@ -20,71 +20,56 @@ use Rattle.table.proofs.Items.{drop-items, no_items}
 use Rattle.sets.specs.Names.{either, outside, names_of}
 use Rattle.sets.proofs.Bits.{length-names}
 use Rattle.sets.proofs.Members.{read_outside, put_either}
-use Rattle.rules.specs.Code.{Form, Brief, Briefs, Noted, Notes, notes, Told, Reached}
+use Rattle.rules.specs.Code.{Brief, Briefs, Noted, NotedAt, no_brief, brief_at, Told, Reached}
 
 -- of an item whose names are among the 32
 noted : {k : Kinds} {x : Item} {b : Brief} (names : ℕ) → Briefs k x b → names ≤ 32 → reads_ok names (reads_of x) ≡ true
-    → Noted k x b.reads b.writes b.form
+    → Noted k x b
 noted {x = x} names b h o = record {
   missed = λ s. ap (λ (r : Names). outside r (names_of s)) b.reads
-      ∙ read_outside names (names_of s) (reads_of x) h (length-names s) o;
-  adds = λ s. ap (either (names_of s)) b.writes ∙ put_either (names_of s) (writes_of x) (length-names s);
+      ∙ read_outside names (names_of s) (reads_of x) h (length-names s.0) o;
+  adds = λ s. ap (either (names_of s)) b.writes ∙ put_either (names_of s) (writes_of x) (length-names s.0);
   form = b.form;
 }
 
--- the items before i are in the three rows
-pub record Noting (t : Table) (k : Kinds) (s : Notes) (i : ℕ) : Type 0 where
-  pub within : i ≤ t.count
-  pub reads : length s.reads ≡ 128
-  pub writes : length s.writes ≡ 128
-  pub forms : length s.forms ≡ 128
-  pub each : (j : ℕ) → j < i
-      → Noted k (slot_at t j).item (get_or s.reads j 0) (get_or s.writes j 0) (get_or s.forms j Form.Wrong)
+-- the items before i are in the row
+pub record Noting (t : Table) (k : Kinds) (bs : List Brief) (i : ℕ) : Type 0 where
+  pub long : length bs ≡ 128
+  pub each : (j : ℕ) → j < i → Noted k (slot_at t j).item (brief_at bs j)
 
 -- one item further
-pub note_next : {t : Table} {k : Kinds} {i : ℕ} (rs ws : List ℕ) (fs : List Form) (n : ℕ) {b : Brief} → Reached t
-    → Noting t k (notes rs ws fs n) i → i < t.count → Briefs k (slot_at t i).item b
-    → Noting t k (notes (set rs i b.reads) (set ws i b.writes) (set fs i b.form) n) (i + 1)
-note_next {t} {k} {i} rs ws fs n {b} r p h e = record {
-  within = omega arith;
-  reads = length-set rs i b.reads ∙ p.reads;
-  writes = length-set ws i b.writes ∙ p.writes;
-  forms = length-set fs i b.form ∙ p.forms;
+pub note_next : {t : Table} {k : Kinds} {i : ℕ} {bs : List Brief} {b : Brief} → Reached t → Noting t k bs i
+    → i < t.count → Briefs k (slot_at t i).item b → Noting t k (set bs i b) (i + 1)
+note_next {t} {k} {i} {bs} {b} r p h e = record {
+  long = length-set bs i b ∙ p.long;
   each = λ j l. by j l (eqb j i) refl;
 }
   where
-    by : (j : ℕ) → j < i + 1 → (q : Bool) → eqb j i ≡ q
-        → Noted k (slot_at t j).item (get_or (set rs i b.reads) j 0) (get_or (set ws i b.writes) j 0)
-        (get_or (set fs i b.form) j Form.Wrong)
+    by : (j : ℕ) → j < i + 1 → (q : Bool) → eqb j i ≡ q → Noted k (slot_at t j).item (brief_at (set bs i b) j)
     by j l true z =
-        rw (
-          eqb-true j i z,
-          get_or-set_same rs i b.reads 0 (omega (arith, p.reads, r.items)),
-          get_or-set_same ws i b.writes 0 (omega (arith, p.writes, r.items)),
-          get_or-set_same fs i b.form Form.Wrong (omega (arith, p.forms, r.items)),
-        )
+        rw (eqb-true j i z, get_or-set_same bs i b no_brief (omega (arith, p.long, r.items)))
         (noted t.names e r.names (r.each i h))
     by j l false z =
         let other : j ≡ i → ⊥ = eqb-false j i z in
-        rw (
-          get_or-set_other rs i j b.reads 0 other,
-          get_or-set_other ws i j b.writes 0 other,
-          get_or-set_other fs i j b.form Form.Wrong other,
-        )
-        (p.each j (omega (arith, l, other)))
+        rw (get_or-set_other bs i j b no_brief other) (p.each j (omega (arith, l, other)))
 
--- all items are in the rows
-pub all_noted : {t : Table} {k : Kinds} {i : ℕ} (rs ws : List ℕ) (fs : List Form)
-    → Noting t k (notes rs ws fs t.count) i → t.count ≤ i → t.count ≤ length t.items
-    → Told k (items_of t) (notes rs ws fs t.count)
-all_noted {t} {k} {i} rs ws fs p h l = record {
-  each = λ j m. record {
-    item = (slot_at t j).item;
-    here = drop-items t.count j t.items m l;
-    noted = p.each j (omega arith);
-  };
-  past = λ j m. no_items t.count j t.items m;
+-- all items are in the row
+pub all_noted : {t : Table} {k : Kinds} {i : ℕ} {bs : List Brief} → Noting t k bs i → t.count ≤ i → t.count ≤ 128
+    → length t.items ≡ 128 → Told k (items_of t) (take t.count bs)
+all_noted {t} {k} {i} {bs} p h m l = record {
+  each = λ j q. by j (rw full at q);
+  past = λ j q. no_items t.count j t.items (rw full at q);
 }
+  where
+    full : length (take t.count bs) ≡ t.count
+    full = omega (arith, length-take t.count bs, p.long)
+
+    by : (j : ℕ) → j < t.count → NotedAt k (items_of t) (take t.count bs) j
+    by j q = record {
+      item = (slot_at t j).item;
+      here = drop-items t.count j t.items q (omega (arith, l));
+      noted = rw (get_or-take t.count bs j no_brief q) (p.each j (omega arith));
+    }
 
 -- ---- a table in shape
 

@@ -16,7 +16,7 @@ use Rattle.table.specs.ReadWrite.{Kinds, kind_at, Names, has, missing, lowest, r
 use Rattle.sets.specs.Names.{outside, names_of}
 use Rattle.rules.specs.Check.{Box, Held, refusals, refusals_at_end, misplaced, base_of, any_box, is_empty}
 use Rattle.rules.specs.Code.{Form, Around, Holds, holds_of, box_of, boxes_in, state_of, Boxed}
-use Rattle.rules.specs.Code.{head_form, plain_form, form_by, wrong_both, Noted}
+use Rattle.rules.specs.Code.{head_form, plain_form, form_by, wrong_both, Brief, Noted}
 use Rattle.rules.specs.Code.{is_wrong, is_open, is_branch, in_if, base_in, mark_in, rows_in, rows_at_end}
 use Rattle.rules.specs.declared.written.Held as coded
 use Rattle.rules.proofs.Forms.{no, formed}
@@ -38,7 +38,7 @@ some_open : (d : ℕ) → eqb (suc d) 0 ≡ false
 some_open d = ne_eqb (suc d) 0 (λ e. omega arith)
 
 base_by : (d : ℕ) (p : Bool) (b : Box) (sure : Names) (bs : List Box)
-    → cond (p && cond (eqb d 0) false (not (is_loop b.sort))) b.before sure ≡ base_of p sure (boxes_in d b bs)
+    → cond (p && (not (eqb d 0) && not (is_loop b.sort))) b.before sure ≡ base_of p sure (boxes_in d b bs)
 base_by d false b sure bs = refl
 base_by zero true b sure bs = refl
 base_by (suc d) true b sure bs = rw (some_open d) (swap (is_loop b.sort) b.before sure)
@@ -80,14 +80,14 @@ module _ (a : Around) (h : Holds) (bs : List Box) where
 
 -- ---- the rows, whatever boxes are around
 
-module _ {k : Kinds} {x : Item} {reads writes : ℕ} {f : Form} (n : Noted k x reads writes f) (a : Around)
-    (h : coded.Held) where
+module _ {k : Kinds} {x : Item} {brief : Brief} (n : Noted k x brief) (a : Around) (h : coded.Held) where
   -- a base is what held before the box, or what is surely written
   missed_in : (g : Form)
-      → outside (names_of reads) (base_in a (holds_of h) g) ≡ missing (has (base_in a (holds_of h) g)) (reads_of x)
+      → outside (names_of brief.reads) (base_in a (holds_of h) g)
+      ≡ missing (has (base_in a (holds_of h) g)) (reads_of x)
   missed_in g = by (is_branch g && in_if a)
     where
-      by : (b : Bool) → outside (names_of reads) (cond b (names_of a.before) (names_of h.sure))
+      by : (b : Bool) → outside (names_of brief.reads) (cond b (names_of a.before) (names_of h.sure))
           ≡ missing (has (cond b (names_of a.before) (names_of h.sure))) (reads_of x)
       by true = n.missed a.before
       by false = n.missed h.sure
@@ -101,7 +101,7 @@ module _ {k : Kinds} {x : Item} {reads writes : ℕ} {f : Form} (n : Noted k x r
     base_in_lem g e = rw e (base_by a.depth (Of.is_branch x) (box_of a (holds_of h)) (names_of h.sure) bs)
 
     plain_rows : wrong_both (kind_at k) (reads_of x) (writes_of x) ≡ false
-        → rows_in a (holds_of h) (names_of reads) (plain_form x) ≡ refusals k (state_of a (holds_of h) bs) x
+        → rows_in a (holds_of h) (names_of brief.reads) (plain_form x) ≡ refusals k (state_of a (holds_of h) bs) x
     plain_rows e =
         let g = formed x in
         same_rows
@@ -115,14 +115,14 @@ module _ {k : Kinds} {x : Item} {reads writes : ℕ} {f : Form} (n : Noted k x r
         g.twice
         (ap₂ (λ (p q : Bool). p && q) g.sweeps (b.swept (holds_of h)))
 
-    pub judged_in : lowest (rows_in a (holds_of h) (names_of reads) f)
+    pub judged_in : lowest (rows_in a (holds_of h) (names_of brief.reads) brief.form)
         ≡ lowest (refusals k (state_of a (holds_of h) bs) x)
     judged_in =
-        ap (λ (g : Form). lowest (rows_in a (holds_of h) (names_of reads) g)) n.form
+        ap (λ (g : Form). lowest (rows_in a (holds_of h) (names_of brief.reads) g)) n.form
         ∙ by (wrong_both (kind_at k) (reads_of x) (writes_of x)) refl
       where
         by : (q : Bool) → wrong_both (kind_at k) (reads_of x) (writes_of x) ≡ q
-            → lowest (rows_in a (holds_of h) (names_of reads) (form_by q x))
+            → lowest (rows_in a (holds_of h) (names_of brief.reads) (form_by q x))
             ≡ lowest (refusals k (state_of a (holds_of h) bs) x)
         by true e = rw e
         by false e = ap lowest (plain_rows e)

@@ -1,4 +1,5 @@
 -- No second answer fits: for each public function, two answers that both keep its contract are equal. Assumes nothing.
+use Rattle.std.proofs.Common.{Result, Ok, Err}
 use Prim.Native.Nat.{ℕ}
 use mathlib.Core.Path.{◌≡◌, refl, sym, ap, ◌∙◌}
 use mathlib.Core.Bool.{cond}
@@ -9,7 +10,6 @@ use Rattle.table.specs.declared.Table.{Table}
 use Rattle.rules.specs.Check.{verdict}
 use Rattle.rules.specs.declared.Refusal.{Refusal}
 use Rattle.rules.specs.Verdict.{number_of, meaning}
-use Rattle.rules.specs.declared.Verdict.{Verdict as Answer}
 
 -- the rule of a number
 abbrev pub rule_of : ℕ → Refusal
@@ -38,12 +38,15 @@ rule_back Refusal.Shape = refl
 pub one_rule : (x y : Refusal) → number_of x ≡ number_of y → x ≡ y
 one_rule x y e = sym (rule_back x) ∙ ap rule_of e ∙ rule_back y
 
+abbrev Answer : Type 0
+Answer = Result (Unit {0}) (Refusal × ℕ)
+
 -- no two answers have one meaning
 pub one_meaning : (x y : Answer) → meaning x ≡ meaning y → x ≡ y
-one_meaning Answer.Accepted Answer.Accepted e = refl
-one_meaning Answer.Accepted (Answer.Refused r l) e = cc
-one_meaning (Answer.Refused r l) Answer.Accepted e = cc
-one_meaning (Answer.Refused r l) (Answer.Refused q k) e =
+one_meaning (Ok x) (Ok y) e = refl
+one_meaning (Ok x) (Err (r, l)) e = cc
+one_meaning (Err (r, l)) (Ok y) e = cc
+one_meaning (Err (r, l)) (Err (q, k)) e =
     let f : r ≡ q = one_rule r q (cc) in
     let g : l ≡ k = cc in
     cc
@@ -52,5 +55,5 @@ pub only_check : (s : List ℕ) (t : Table) (x y : Answer) → meaning x ≡ ver
     → meaning y ≡ verdict (length s) t → x ≡ y
 only_check s t x y p q = one_meaning x y (p ∙ sym q)
 
-pub only_number : (r : Refusal) (x y : ℕ) → x ≡ number_of r → y ≡ number_of r → x ≡ y
-only_number r x y p q = p ∙ sym q
+pub only_u8_from_refusal : (r : Refusal) (x y : ℕ) → x ≡ number_of r → y ≡ number_of r → x ≡ y
+only_u8_from_refusal r x y p q = p ∙ sym q

@@ -1,16 +1,16 @@
 -- The kinds' pass, one item at a time. Assumes nothing.
+use Rattle.std.proofs.Common.{Option, Some, None}
 use Prim.Native.Nat.{ℕ, suc, ◌+◌, ◌≤◌, ◌<◌}
 use mathlib.Core.Path.{◌≡◌, refl, sym, ap, ◌∙◌}
 use mathlib.Core.Bool.{not, cond}
 use native.Mathlib.Numerals.{add-one}
-use native.Mathlib.Omega.{arith}
 use lib.ListN.{length, get_or, set, drop, replicate}
 use lib.Seq.{set-get_or}
 use Rattle.table.specs.declared.Act.{Act}
+use Rattle.table.specs.declared.Kind.{Kind}
 use Rattle.table.specs.declared.Item.{Item}
 use Rattle.table.specs.declared.Slot.{Slot}
 use Rattle.table.specs.declared.Table.{Table}
-use Rattle.table.specs.declared.Known.{Known}
 use Rattle.table.specs.declared.Writes.{Writes}
 use Rattle.table.specs.ReadWrite.{Kinds, kind_at, act_writes, writes_of}
 use Rattle.table.specs.Code.{all_writes}
@@ -18,13 +18,13 @@ use Rattle.table.specs.Shape.{no_slot, items_of}
 use Rattle.table.proofs.Items.{drop-items, no_items}
 use Rattle.rules.specs.Check.{is_known, passed_act, or_else, learn, learn_item, kinds_of}
 
-or_same : (j : Known) → or_else j j ≡ j
-or_same Known.Unknown = refl
-or_same (Known.Of j) = refl
+or_same : (j : Option Kind) → or_else j j ≡ j
+or_same None = refl
+or_same (Some j) = refl
 
-or_unknown : (j : Known) → or_else j Known.Unknown ≡ j
-or_unknown Known.Unknown = refl
-or_unknown (Known.Of j) = refl
+or_unknown : (j : Option Kind) → or_else j None ≡ j
+or_unknown None = refl
+or_unknown (Some j) = refl
 
 -- what is passed over would teach nothing
 acts : (k : Kinds) (a : Act) → cond (passed_act k a) k (learn k (act_writes a)) ≡ learn k (act_writes a)
@@ -32,10 +32,11 @@ acts k (Act.Var v) = refl
 acts k (Act.Store v l t) = refl
 acts k (Act.Copy a b) = by (kind_at k a)
   where
-    by : (j : Known) → cond (not (is_known j)) k (set k b (or_else (kind_at k b) j)) ≡ set k b (or_else (kind_at k b) j)
-    by Known.Unknown = sym (ap (set k b) (or_unknown (kind_at k b)) ∙ set-get_or k b Known.Unknown)
-    by (Known.Of j) = refl
-acts k (Act.Calc o v x) = sym (ap (set k v) (or_same (kind_at k v)) ∙ set-get_or k v Known.Unknown)
+    by : (j : Option Kind) → cond (not (is_known j)) k (set k b (or_else (kind_at k b) j))
+        ≡ set k b (or_else (kind_at k b) j)
+    by None = sym (ap (set k b) (or_unknown (kind_at k b)) ∙ set-get_or k b None)
+    by (Some j) = refl
+acts k (Act.Calc o v x) = sym (ap (set k v) (or_same (kind_at k v)) ∙ set-get_or k v None)
 acts k (Act.Meas f v t) = refl
 acts k (Act.TimerGet v) = refl
 acts k (Act.SendString s) = refl
@@ -58,17 +59,13 @@ learns k Item.Tag = refl
 
 -- the pass has come to item i: what the rest teaches beside what is learnt is what all items teach
 pub record Learning (t : Table) (k : Kinds) (i : ℕ) : Type 0 where
-  pub within : i ≤ t.count
-  pub left : kinds_of k (drop i (items_of t)) ≡ kinds_of (replicate 32 Known.Unknown) (items_of t)
+  pub left : kinds_of k (drop i (items_of t)) ≡ kinds_of (replicate 32 None) (items_of t)
 
 -- one item further, by the code's steps: the slot, what its item writes, what is learnt of that
 pub kinds_next : (t : Table) (i : ℕ) {k : Kinds} → Learning t k i → (s : Slot) (g : Writes) (r : Kinds)
     → i < t.count → t.count ≤ length t.items → s ≡ get_or t.items i no_slot → all_writes g ≡ writes_of s.item
     → r ≡ learn k (all_writes g) → Learning t r (i + 1)
-kinds_next t i {k} l s g r h m e f d = record {
-  within = omega arith;
-  left = further ∙ l.left;
-}
+kinds_next t i {k} l s g r h m e f d = record { left = further ∙ l.left }
   where
     further : kinds_of r (drop (i + 1) (items_of t)) ≡ kinds_of k (drop i (items_of t))
     further =
@@ -77,5 +74,5 @@ kinds_next t i {k} l s g r h m e f d = record {
         (ap (λ (q : Kinds). kinds_of q (drop (suc i) (items_of t))) same)
 
 pub kinds_end : {t : Table} {k : Kinds} {i : ℕ} → Learning t k i → t.count ≤ i
-    → k ≡ kinds_of (replicate 32 Known.Unknown) (items_of t)
+    → k ≡ kinds_of (replicate 32 None) (items_of t)
 kinds_end {t} {k} {i} l h = sym (ap (kinds_of k) (no_items t.count i t.items h)) ∙ l.left

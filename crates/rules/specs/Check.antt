@@ -1,5 +1,6 @@
 -- The rules (01, The checker: 30 and 19 to 26) as one walk over the items in order. The state before an item is what
 -- `after` made of the items before it; each rule is a row, its number and its test, and the lowest that holds is given.
+use Rattle.std.specs.Prelude.{Option, Some, None}
 use Rattle.std.specs.Prelude.{ℕ, zero, suc, Bool, true, false, not, ◌&&◌, ◌||◌, cond, List, [], ◌∷◌, eqb, ltb}
 use Rattle.std.specs.Prelude.{leb, length, set, replicate}
 use Rattle.table.specs.declared.Act.{Act}
@@ -8,8 +9,7 @@ use Rattle.table.specs.declared.Branch.{Branch}
 use Rattle.table.specs.declared.Table.{Table}
 use Rattle.table.specs.declared.Item.{Item}
 use Rattle.table.specs.declared.Sort.{Sort}
-use Rattle.table.specs.declared.Known.{Known}
-use Rattle.table.specs.declared.Kind.TheVariants as Kind
+use Rattle.table.specs.declared.Kind.{Kind}
 use Rattle.table.specs.declared.Write.{Write}
 use Rattle.table.specs.Item.{sort_of, is_open, is_branch, is_close, is_break, is_tag, is_else, is_loop}
 use Rattle.table.specs.Item.{is_sweep, opens_a, fits}
@@ -22,9 +22,9 @@ use Rattle.sets.specs.Names.{nothing, everything, both, put}
 -- ---- kinds: "a name's kind is that of its first writing in text order, passing over arithmetic and any copy whose
 -- source has no kind from earlier lines"
 
-abbrev pub is_known : Known → Bool
-is_known Known.Unknown = false
-is_known (Known.Of j) = true
+abbrev pub is_known : Option Kind → Bool
+is_known None = false
+is_known (Some j) = true
 
 -- arithmetic, and a copy whose source has no kind
 abbrev pub passed_act : Kinds → Act → Bool
@@ -53,14 +53,14 @@ passed_over k Item.Break = false
 passed_over k Item.Tag = false
 
 -- the first writing: a name that has a kind keeps it
-abbrev pub or_else : Known → Known → Known
-or_else Known.Unknown k = k
-or_else (Known.Of j) k = Known.Of j
+abbrev pub or_else : Option Kind → Option Kind → Option Kind
+or_else None k = k
+or_else (Some j) k = Some j
 
 abbrev pub learn : Kinds → List Write → Kinds
 learn k [] = k
 learn k (Write.Like n x ∷ gs) = learn (set k n (or_else (kind_at k n) (kind_in (kind_at k) x))) gs
-learn k (Write.Float n ∷ gs) = learn (set k n (or_else (kind_at k n) (Known.Of Kind.Real))) gs
+learn k (Write.Float n ∷ gs) = learn (set k n (or_else (kind_at k n) (Some Kind.Real))) gs
 
 abbrev pub learn_item : Kinds → Item → Kinds
 learn_item k x = cond (passed_over k x) k (learn k (writes_of x))
@@ -216,7 +216,7 @@ at_line t accepted = accepted
 at_line t (refused n i) = refused n (line_of t i)
 
 abbrev pub walked : Table → Verdict
-walked t = walk (kinds_of (replicate 32 Known.Unknown) (items_of t)) 0 begin (items_of t)
+walked t = walk (kinds_of (replicate 32 None) (items_of t)) 0 begin (items_of t)
 
 -- of a script of so many bytes
 unfoldable pub verdict : ℕ → Table → Verdict

@@ -1,6 +1,7 @@
 -- What only the code's shape needs: kinds as two sets of names, items in brief, the innermost open box apart from those
 -- around it, and the checker on its way, the verdict still to come from a place, which block checker and item checker
 -- keep.
+use Rattle.std.specs.Prelude.{Option, Some, None, Result, Ok, Err}
 use Rattle.std.specs.Prelude.{ℕ, zero, suc, ◌≤◌, ◌<◌, ◌≡◌, Bool, true, false, not, ◌&&◌, ◌||◌, cond, List, []}
 use Rattle.std.specs.Prelude.{◌∷◌, eqb, leb, length, get_or, set, drop}
 use Rattle.table.specs.declared.Item.{Item}
@@ -9,17 +10,17 @@ use Rattle.table.specs.declared.Pack.{Pack}
 use Rattle.table.specs.declared.Head.{Head}
 use Rattle.table.specs.declared.Close.{Close}
 use Rattle.table.specs.declared.Sort.{Sort}
-use Rattle.table.specs.declared.Known.{Known}
-use Rattle.table.specs.declared.Kind.TheVariants as Kind
+use Rattle.table.specs.declared.Kind.{Kind}
 use Rattle.table.specs.declared.Read.{Read}
 use Rattle.table.specs.declared.Write.{Write}
 use Rattle.table.specs.Item.{is_else, is_loop, is_sweep}
 use Rattle.table.specs.ReadWrite.{Kinds, kind_at, Names, has, reads_of, writes_of, wrong, wrong_write, missing}
 use Rattle.table.specs.Shape.{slot_at, reads_ok}
 use Rattle.sets.specs.Names.{nothing, everything, both, either, outside, asks, put, names_of}
-use Rattle.rules.specs.Check.{or_else, Box, Held, any_box, after_box, Verdict, accepted, or_go, walk}
-use Rattle.rules.specs.declared.Finding.TheVariants as Finding
-use Rattle.rules.specs.Verdict.{found}
+use Rattle.sets.specs.declared.NameSet.{NameSet}
+use Rattle.rules.specs.Check.{or_else, Box, Held, any_box, after_box, Verdict, accepted, refused, walk}
+use Rattle.rules.specs.declared.Refusal.{Refusal}
+use Rattle.rules.specs.Verdict.{number_of}
 pub use Rattle.rules.specs.declared.kinds.Sorted.{Sorted}
 pub use Rattle.rules.specs.declared.briefs.Step.{Step}
 pub use Rattle.rules.specs.declared.briefs.Step.TheVariants as Step
@@ -27,17 +28,16 @@ pub use Rattle.rules.specs.declared.briefs.Form.{Form}
 pub use Rattle.rules.specs.declared.briefs.Form.TheVariants as Form
 pub use Rattle.rules.specs.declared.briefs.Brief.{Brief}
 pub use Rattle.rules.specs.declared.written.Around.{Around}
-pub use Rattle.rules.specs.declared.refusals.Tests.{Tests}
 pub use Rattle.rules.specs.declared.boxes.Walk.{Walk}
 pub use Rattle.rules.specs.declared.boxes.Out.{Out}
 use Rattle.rules.specs.declared.written.Held as coded
 
 -- ---- kinds: the set of the whole ones and that of the floats
 
-abbrev pub kind_by : Bool → Bool → Known
-kind_by true real = Known.Of Kind.Whole
-kind_by false true = Known.Of Kind.Real
-kind_by false false = Known.Unknown
+abbrev pub kind_by : Bool → Bool → Option Kind
+kind_by true real = Some Kind.Whole
+kind_by false true = Some Kind.Real
+kind_by false false = None
 
 unfoldable pub kinds_by : Names → Names → Kinds
 kinds_by [] t = []
@@ -47,20 +47,10 @@ kinds_by (a ∷ s) (b ∷ t) = kind_by a b ∷ kinds_by s t
 unfoldable pub kinds_in : Sorted → Kinds
 kinds_in k = kinds_by (names_of k.whole) (names_of k.real)
 
-abbrev pub is_whole : Known → Bool
-is_whole Known.Unknown = false
-is_whole (Known.Of Kind.Whole) = true
-is_whole (Known.Of Kind.Real) = false
-
-abbrev pub is_float : Known → Bool
-is_float Known.Unknown = false
-is_float (Known.Of Kind.Whole) = false
-is_float (Known.Of Kind.Real) = true
-
-abbrev pub learnt : Kinds → ℕ → Known → Kinds
+abbrev pub learnt : Kinds → ℕ → Option Kind → Kinds
 learnt k n j = set k n (or_else (kind_at k n) j)
 
-abbrev pub wrong_both : (ℕ → Known) → List Read → List Write → Bool
+abbrev pub wrong_both : (ℕ → Option Kind) → List Read → List Write → Bool
 wrong_both kind ws gs = wrong kind ws || wrong_write kind gs
 
 -- ---- an item in brief
@@ -96,30 +86,27 @@ pub record Briefs (k : Kinds) (x : Item) (b : Brief) : Type 0 where
   pub form : b.form ≡ form_of k x
 
 -- what the walk takes from an item's brief: what it reads is missing, what it writes is put
-pub record Noted (k : Kinds) (x : Item) (reads writes : ℕ) (f : Form) : Type 0 where
-  pub missed : (s : ℕ) → outside (names_of reads) (names_of s) ≡ missing (has (names_of s)) (reads_of x)
-  pub adds : (s : ℕ) → either (names_of s) (names_of writes) ≡ put (names_of s) (writes_of x)
-  pub form : f ≡ form_of k x
+pub record Noted (k : Kinds) (x : Item) (b : Brief) : Type 0 where
+  pub missed : (s : NameSet) → outside (names_of b.reads) (names_of s) ≡ missing (has (names_of s)) (reads_of x)
+  pub adds : (s : NameSet) → either (names_of s) (names_of b.writes) ≡ put (names_of s) (writes_of x)
+  pub form : b.form ≡ form_of k x
 
--- the briefs of a row of items, in three rows
-pub record Notes : Type 0 where
-  pub reads : List ℕ
-  pub writes : List ℕ
-  pub forms : List Form
-  pub count : ℕ
+-- where there is no brief
+abbrev pub no_brief : Brief
+no_brief = record { reads = record { 0 = 0 }; writes = record { 0 = 0 }; form = Form.Wrong }
 
-abbrev pub notes : List ℕ → List ℕ → List Form → ℕ → Notes
-notes reads writes forms count = record { reads = reads; writes = writes; forms = forms; count = count }
+abbrev pub brief_at : List Brief → ℕ → Brief
+brief_at t i = get_or t i no_brief
 
-pub record NotedAt (k : Kinds) (xs : List Item) (t : Notes) (i : ℕ) : Type 0 where
+pub record NotedAt (k : Kinds) (xs : List Item) (t : List Brief) (i : ℕ) : Type 0 where
   pub item : Item
   pub here : drop i xs ≡ item ∷ drop (suc i) xs
-  pub noted : Noted k item (get_or t.reads i 0) (get_or t.writes i 0) (get_or t.forms i Form.Wrong)
+  pub noted : Noted k item (brief_at t i)
 
--- these are the notes of the items
-pub record Told (k : Kinds) (xs : List Item) (t : Notes) : Type 0 where
-  pub each : (i : ℕ) → i < t.count → NotedAt k xs t i
-  pub past : (i : ℕ) → t.count ≤ i → drop i xs ≡ []
+-- these are the briefs of the items
+pub record Told (k : Kinds) (xs : List Item) (t : List Brief) : Type 0 where
+  pub each : (i : ℕ) → i < length t → NotedAt k xs t i
+  pub past : (i : ℕ) → length t ≤ i → drop i xs ≡ []
 
 -- every name that an item reads is one of the 32
 pub record Reached (t : Table) : Type 0 where
@@ -259,10 +246,10 @@ pub record Starts (h : coded.Held) : Type 0 where
 -- ---- the tests, of what the code holds
 
 abbrev pub in_if : Around → Bool
-in_if a = cond (eqb a.depth 0) false (not (is_loop a.sort))
+in_if a = not (eqb a.depth 0) && not (is_loop a.sort)
 
 abbrev pub in_loop : Around → Bool
-in_loop a = cond (eqb a.depth 0) false (is_loop a.sort)
+in_loop a = not (eqb a.depth 0) && is_loop a.sort
 
 abbrev pub base_in : Around → Holds → Form → Names
 base_in a h f = cond (is_branch f && in_if a) (names_of a.before) h.sure
@@ -306,19 +293,6 @@ rows_in a h reads f =
 
 abbrev pub rows_at_end : ℕ → Bool → List (ℕ × Bool)
 rows_at_end depth packed = (21, not (eqb depth 0)) ∷ (23, packed) ∷ []
-
--- the tests as rows
-abbrev pub rows_of : Tests → List (ℕ × Bool)
-rows_of t =
-    (19, t.kinds)
-    ∷ (20, t.unwritten)
-    ∷ (21, t.mark)
-    ∷ (22, t.ninth)
-    ∷ (23, t.order)
-    ∷ (24, t.tag)
-    ∷ (25, t.twice)
-    ∷ (26, t.nested)
-    ∷ []
 
 -- ---- what holds after an item that opens no box
 
@@ -389,15 +363,14 @@ unfoldable pub rest_of : Kinds → List Item → ℕ → Held → Verdict
 rest_of k xs i s = walk k i s (drop i xs)
 
 -- where nothing is found, what is left to come
-unfoldable pub come_to : Kinds → List Item → Walk → Held → Verdict
-come_to k xs r s = or_go (found r.finding) r.at (rest_of k xs r.at s)
+-- which refusal, and at what item
+abbrev pub Refused : Type 0
+Refused = Refusal × ℕ
 
-unfoldable pub come_out : Kinds → List Item → Out → Held → Verdict
-come_out k xs r s = or_go (found r.finding) r.at (rest_of k xs r.at s)
-
--- where nothing is left to come
-abbrev pub outcome : Out → Verdict
-outcome r = or_go (found r.finding) r.at accepted
+-- what came of a whole row that no box is around
+abbrev pub outcome : Result Out Refused → Verdict
+outcome (Ok r) = accepted
+outcome (Err e) = refused (number_of e.0) e.1
 
 abbrev pub out_state : Out → List Box → Held
 out_state r bs = record { sure = names_of r.sure; boxes = bs; packed = r.packed; tagged = r.tagged }
@@ -405,7 +378,6 @@ out_state r bs = record { sure = names_of r.sure; boxes = bs; packed = r.packed;
 abbrev pub back_by : Out → coded.Held → Walk
 back_by r h = record {
   at = r.at;
-  finding = r.finding;
   closed = false;
   held = record {
     sure = r.sure;
@@ -419,27 +391,38 @@ back_by r h = record {
 abbrev pub left_by : Walk → Out
 left_by r = record {
   at = r.at;
-  finding = r.finding;
   sure = r.held.sure;
   packed = r.held.packed;
   tagged = r.held.tagged;
 }
 
--- from item i of a row the block checker has come out of the row: of whatever items these are the notes, and whatever
--- is around, the verdict is the same
-pub record Went (t : Notes) (i : ℕ) (a : Around) (h : coded.Held) (r : Out) : Type 0 where
+-- from item i of a row there is a refusal at item j: of whatever items these are the briefs, and whatever is around,
+-- that is the verdict
+pub record Refuses (t : List Brief) (i : ℕ) (a : Around) (h : coded.Held) (q : Refusal) (j : ℕ) : Type 0 where
   pub same : (k : Kinds) (xs : List Item) → Told k xs t → (bs : List Box) → Boxed a bs
-      → come_out k xs r (out_state r bs) ≡ rest_of k xs i (state_of a (holds_of h) bs)
-  pub within : r.at ≤ t.count
+      → refused (number_of q) j ≡ rest_of k xs i (state_of a (holds_of h) bs)
+
+-- the block checker has come out of the row: the verdict is the same from there
+pub record Leaves (t : List Brief) (i : ℕ) (a : Around) (h : coded.Held) (r : Out) : Type 0 where
+  pub same : (k : Kinds) (xs : List Item) → Told k xs t → (bs : List Box) → Boxed a bs
+      → rest_of k xs r.at (out_state r bs) ≡ rest_of k xs i (state_of a (holds_of h) bs)
+  pub within : r.at ≤ length t
   pub ahead : i ≤ r.at
   pub done : (k : Kinds) (xs : List Item) → Told k xs t → (bs : List Box) → Boxed a bs → a.depth ≡ 0
-      → r.finding ≡ Finding.Nothing → rest_of k xs r.at (out_state r bs) ≡ accepted
+      → rest_of k xs r.at (out_state r bs) ≡ accepted
 
 -- the item checker has passed item i, and the box that it opens
-pub record Took (t : Notes) (i : ℕ) (a : Around) (h : coded.Held) (r : Walk) : Type 0 where
+pub record Passes (t : List Brief) (i : ℕ) (a : Around) (h : coded.Held) (r : Walk) : Type 0 where
   pub same : (k : Kinds) (xs : List Item) → Told k xs t → (bs : List Box) → Boxed a bs
-      → come_to k xs r (state_after r.closed a (holds_of r.held) bs) ≡ rest_of k xs i (state_of a (holds_of h) bs)
-  pub within : r.at ≤ t.count
-  pub ahead : i ≤ r.at
-  pub later : r.finding ≡ Finding.Nothing → i < r.at
+      → rest_of k xs r.at (state_after r.closed a (holds_of r.held) bs) ≡ rest_of k xs i (state_of a (holds_of h) bs)
+  pub within : r.at ≤ length t
+  pub later : i < r.at
   pub inside : r.closed ≡ true → a.depth ≡ 0 → ⊥
+
+abbrev pub Went : List Brief → ℕ → Around → coded.Held → Result Out Refused → Type 0
+Went t i a h (Ok r) = Leaves t i a h r
+Went t i a h (Err e) = Refuses t i a h e.0 e.1
+
+abbrev pub Took : List Brief → ℕ → Around → coded.Held → Result Walk Refused → Type 0
+Took t i a h (Ok r) = Passes t i a h r
+Took t i a h (Err e) = Refuses t i a h e.0 e.1

@@ -1,9 +1,7 @@
 -- What the code's answers mean: 01's numbers, and the verdict with its place.
-use Rattle.std.specs.Prelude.{ℕ}
+use Rattle.std.specs.Prelude.{ℕ, Option, Some, None, Result, Ok, Err}
 use Rattle.rules.specs.Check.{Verdict, accepted, refused}
 use Rattle.rules.specs.declared.Refusal.{Refusal}
-use Rattle.rules.specs.declared.Finding.{Finding}
-use Rattle.rules.specs.declared.Verdict.{Verdict as Answer}
 
 abbrev pub number_of : Refusal → ℕ
 number_of Refusal.Kinds = 19
@@ -17,10 +15,10 @@ number_of Refusal.Nested = 26
 number_of Refusal.Shape = 30
 
 -- 0: no rule is broken
-abbrev pub found : Finding → ℕ
-found Finding.Nothing = 0
-found (Finding.Broken r) = number_of r
+abbrev pub found : Option Refusal → ℕ
+found None = 0
+found (Some r) = number_of r
 
-abbrev pub meaning : Answer → Verdict
-meaning Answer.Accepted = accepted
-meaning (Answer.Refused r line) = refused (number_of r) line
+abbrev pub meaning : Result (Unit {0}) (Refusal × ℕ) → Verdict
+meaning (Ok done) = accepted
+meaning (Err (r, line)) = refused (number_of r) line

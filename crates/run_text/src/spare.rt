@@ -1,88 +1,41 @@
 // How many places past a count hold something: none should, but in a state that a step gives back as it was.
-use case_text::lesser;
 use course::{Ran, Said};
-use state::{Answer, State, Stepped, Thing, What};
-use std::num::wrapping_add_usize;
-
-const BOXES: usize = 8;
-
-const THINGS: usize = 8;
-
-const STEPS: usize = 64;
-
-const HANDED: usize = 512;
-
-fn in_box(place: usize) -> usize {
-    if place == 0 { 0 } else { 1 }
-}
-
-fn in_thing(thing: Thing) -> usize {
-    let what = thing.what;
-    match what {
-        What::Nothing => 0,
-        _ => 1,
-    }
-}
+use state::{Answer, State, Stepped, What};
 
 // An empty place says that a step is running, and hands out nothing.
-fn in_said(said: Said) -> usize {
-    let answer = said.answer;
-    match answer {
-        Answer::Running => in_box(said.things),
-        _ => 1,
-    }
+fn in_said(said: &Said) -> bool {
+    !matches!(said.answer, Answer::Running) || said.things != 0
 }
 
-fn boxes(m: State) -> usize {
-    let mut n: usize = 0;
-    let mut i = lesser(m.depth, BOXES);
-    while i < BOXES {
-        n = wrapping_add_usize(n, in_box(m.boxes[i]));
-        i += 1;
-    }
-    n
+fn things(row: &[What], count: usize) -> usize {
+    row.iter()
+        .skip(count)
+        .filter(|thing| !matches!(thing, What::Nothing))
+        .count()
 }
 
-fn things(stepped: Stepped) -> usize {
-    let mut n: usize = 0;
-    let mut i = lesser(stepped.count, THINGS);
-    while i < THINGS {
-        let thing = stepped.things[i];
-        n = wrapping_add_usize(n, in_thing(thing));
-        i += 1;
-    }
-    n
+fn boxes(m: &State) -> usize {
+    m.boxes
+        .iter()
+        .skip(m.depth)
+        .filter(|place| **place != 0)
+        .count()
 }
 
-fn answers(ran: Ran) -> usize {
-    let mut n: usize = 0;
-    let mut i = lesser(ran.count, STEPS);
-    while i < STEPS {
-        let said = ran.answers[i];
-        n = wrapping_add_usize(n, in_said(said));
-        i += 1;
-    }
-    n
+fn answers(ran: &Ran) -> usize {
+    ran.answers
+        .iter()
+        .skip(ran.count)
+        .filter(|said| in_said(said))
+        .count()
 }
 
-fn handed(ran: Ran) -> usize {
-    let mut n: usize = 0;
-    let mut i = lesser(ran.handed, HANDED);
-    while i < HANDED {
-        let thing = ran.things[i];
-        n = wrapping_add_usize(n, in_thing(thing));
-        i += 1;
-    }
-    n
+pub fn in_step(stepped: &Stepped) -> usize {
+    boxes(&stepped.state).wrapping_add(things(&stepped.things, stepped.count))
 }
 
-pub fn in_step(stepped: Stepped) -> usize {
-    let m = stepped.state;
-    wrapping_add_usize(boxes(m), things(stepped))
-}
-
-pub fn in_run(ran: Ran) -> usize {
-    let m = ran.state;
-    let listed = wrapping_add_usize(answers(ran), handed(ran));
-    wrapping_add_usize(boxes(m), listed)
+pub fn in_run(ran: &Ran) -> usize {
+    boxes(&ran.state)
+        .wrapping_add(answers(ran))
+        .wrapping_add(things(&ran.things, ran.handed))
 }

@@ -1,4 +1,6 @@
 -- Each item of an accepted script, run where the checker's walk stood, leaves the run where the walk stands after it.
+use Rattle.std.proofs.Common.{Some, Result, Ok, Err}
+use Rattle.value.specs.declared.Stop.{Stop}
 use Prim.Native.Nat.{ℕ, suc, ◌<◌}
 use mathlib.Core.Path.{◌≡◌, refl, ◌∙◌}
 use mathlib.Core.Logic.{inl, inr}
@@ -9,7 +11,6 @@ use lib.Dec.{ltb}
 use lib.ListN.{set}
 use borrow.Author.Tests.{not-false, not-true}
 use Rattle.value.specs.declared.Value.{Value}
-use Rattle.value.specs.declared.Calculated.{Calculated}
 use Rattle.value.specs.Arithmetic.{finite, checked, calculated}
 use Rattle.table.specs.declared.Operand.TheVariants as Operand
 use Rattle.table.specs.declared.Condition.{Condition}
@@ -22,7 +23,6 @@ use Rattle.table.specs.declared.Close.{Close}
 use Rattle.table.specs.declared.Item.{Item}
 use Rattle.state.specs.declared.LoopSort.{LoopSort}
 use Rattle.table.specs.declared.Kind.TheVariants as Kind
-use Rattle.table.specs.declared.Known.TheVariants as Known
 use Rattle.table.specs.declared.Write.TheVariants as Write
 use Rattle.table.specs.Item.{sort_of, is_loop, is_sweep, opens_a}
 use Rattle.table.specs.ReadWrite.{act_writes, head_writes, kind_of, differ, Kinds, kind_at, wrong_write, Names, has}
@@ -31,7 +31,7 @@ use Rattle.table.specs.Shape.{writes_ok}
 use Rattle.mates.specs.Mates.{item_at}
 use Rattle.rules.proofs.Placed.{Box}
 use Rattle.sets.specs.Names.{put}
-use Rattle.state.specs.declared.Cell.{Cell}
+use Rattle.state.specs.State.{Cell}
 use Rattle.state.specs.declared.Offer.{Offer}
 use Rattle.state.specs.State.{Vars, cell_at, is_written, cell_kind, cell_value, cell_type, value_of, holds, da, ba, eb}
 use Rattle.state.specs.State.{code0028, code0010, State, leaves, Answer, running, waiting, finished, stopped, fault}
@@ -85,16 +85,16 @@ module _ {names size : ℕ} {items : List Item} (ok : Accepted names size items)
           (rw q (cover-set m.vars v w su h.vars.len u e h.cover))
           (all_cover_up m.vars v w l e h.covers) (set-vars m.vars v w h.vars f d) h.living
 
-      kept_fine : (v c : ℕ) (g : Calculated) → put su (act_writes a) ≡ set su v true → v < 32
-          → ((u : Value) → g ≡ Calculated.Value u
-          → (finite u ≡ true) × (differ (kind_at (text_kinds items) v) (Known.Of (kind_of u)) ≡ false))
+      kept_fine : (v c : ℕ) (g : Result Value Stop) → put su (act_writes a) ≡ set su v true → v < 32
+          → ((u : Value) → g ≡ Ok u
+          → (finite u ≡ true) × (differ (kind_at (text_kinds items) v) (Some (kind_of u)) ≡ false))
           → FineStep (kept m v c g)
-      kept_fine v c (Calculated.Value u) q b f = wrote v (Cell.Holds u c) q b refl (f u refl).0 (f u refl).1
-      kept_fine v c Calculated.ByZero q b f = stops h code0028 refl
-      kept_fine v c Calculated.NotFinite q b f = stops h code0010 refl
+      kept_fine v c (Ok u) q b f = wrote v (Some (u, c)) q b refl (f u refl).0 (f u refl).1
+      kept_fine v c (Err Stop.ByZero) q b f = stops h code0028 refl
+      kept_fine v c (Err Stop.NotFinite) q b f = stops h code0010 refl
 
       float_fine : (v c : ℕ) (x : Float) → put su (act_writes a) ≡ set su v true → v < 32
-          → differ (kind_at (text_kinds items) v) (Known.Of Kind.Real) ≡ false → FineStep (kept m v c (checked x))
+          → differ (kind_at (text_kinds items) v) (Some Kind.Real) ≡ false → FineStep (kept m v c (checked x))
       float_fine v c x q b d = kept_fine v c (checked x) q b (λ u e. let r = checked_got x u e in (r.0, rw r.1 d))
 
       stays : put su (act_writes a) ≡ su → Good ok (next m)
@@ -110,7 +110,7 @@ module _ {names size : ℕ} {items : List Item} (ok : Accepted names size items)
     act_fine (Act.Var v) o h = stays (Act.Var v) h refl
     act_fine (Act.Store v x c) o h =
         let g = written_ok (Act.Store v x c) h in
-        wrote (Act.Store v x c) h v (Cell.Holds x c) refl (like_below ok v (Operand.Literal x) g) refl
+        wrote (Act.Store v x c) h v (Some (x, c)) refl (like_below ok v (Operand.Literal x) g) refl
         (and_r (ltb v names) (finite x) g)
         (clean ok h.reach).gifts
     act_fine (Act.Copy a b) o h =
@@ -213,10 +213,10 @@ module _ {names size : ℕ} {items : List Item} (ok : Accepted names size items)
         d = (clean ok h.reach).gifts
 
         w₁ : Cell
-        w₁ = Cell.Holds (Value.Real x) da
+        w₁ = Some (Value.Real x, da)
 
         w₂ : Cell
-        w₂ = Cell.Holds (Value.Real y) ba
+        w₂ = Some (Value.Real y, ba)
 
         v₁ : Vars
         v₁ = set m.vars w.potential w₁
@@ -230,10 +230,10 @@ module _ {names size : ℕ} {items : List Item} (ok : Accepted names size items)
         b₂ : w.current < 32
         b₂ = float_below ok w.current [] (and_l (ltb w.current names) (ltb w.potential names) g)
 
-        d₁ : differ (kind_at (text_kinds items) w.potential) (Known.Of Kind.Real) ≡ false
-        d₁ = or_r (differ (kind_at (text_kinds items) w.current) (Known.Of Kind.Real)) _ d
+        d₁ : differ (kind_at (text_kinds items) w.potential) (Some Kind.Real) ≡ false
+        d₁ = or_r (differ (kind_at (text_kinds items) w.current) (Some Kind.Real)) _ d
 
-        d₂ : differ (kind_at (text_kinds items) w.current) (Known.Of Kind.Real) ≡ false
+        d₂ : differ (kind_at (text_kinds items) w.current) (Some Kind.Real) ≡ false
         d₂ = or_l _ _ d
 
         go : (a b : Bool) → finite (Value.Real x) ≡ a → finite (Value.Real y) ≡ b

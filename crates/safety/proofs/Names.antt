@@ -1,4 +1,5 @@
 -- The names of a run: written where the checker was sure of it, each of its kind in the text, and finite.
+use Rattle.std.proofs.Common.{Option, Some, None}
 use Prim.Native.Nat.{ℕ, suc, ◌<◌}
 use mathlib.Core.Path.{◌≡◌, refl, sym, ap, ◌∙◌}
 use mathlib.Core.Logic.{inl, inr}
@@ -10,13 +11,12 @@ use lib.Seq.{get_or-set_same}
 use borrow.Author.Tests.{not-false}
 use Rattle.table.specs.declared.Operand.{Operand}
 use Rattle.table.specs.declared.Kind.{Kind}
-use Rattle.table.specs.declared.Known.{Known}
 use Rattle.table.specs.declared.Read.{Read}
 use Rattle.table.specs.ReadWrite.{kind_of, alike_kind, differ, Kinds, kind_at, kind_in, wrong, Names, has, gone}
 use Rattle.table.specs.ReadWrite.{missing}
 use Rattle.rules.specs.Check.{is_known}
 use Rattle.rules.proofs.Placed.{Box}
-use Rattle.state.specs.declared.Cell.{Cell}
+use Rattle.state.specs.State.{Cell}
 use Rattle.state.specs.State.{Vars, cell_at, is_written, cell_kind, cell_value, written, kind_now, cell_ok, cells_ok}
 use Rattle.safety.proofs.Laws.{no', or_l, or_r, or_f, AfterSet, get_d_set, get_or-rep}
 use Rattle.safety.proofs.Sure.{Within}
@@ -36,18 +36,18 @@ pub record VarsOk (k : Kinds) (vs : Vars) : Type 0 where
   pub agree : (n : ℕ) → differ (kind_at k n) (kind_now vs n) ≡ false
   pub fine : (n : ℕ) → cell_ok (cell_at vs n) ≡ true
 
-pub fresh_vars : (k : Kinds) → VarsOk k (replicate 32 Cell.Unwritten)
+pub fresh_vars : (k : Kinds) → VarsOk k (replicate 32 None)
 fresh_vars k = record { len = refl; agree = agrees; fine = fines }
   where
-    none_differs : (j : Known) → differ j Known.Unknown ≡ false
-    none_differs Known.Unknown = refl
-    none_differs (Known.Of j) = refl
+    none_differs : (j : Option Kind) → differ j None ≡ false
+    none_differs None = refl
+    none_differs (Some j) = refl
 
-    agrees : (n : ℕ) → differ (kind_at k n) (kind_now (replicate 32 Cell.Unwritten) n) ≡ false
-    agrees n = rw (get_or-rep 32 n Cell.Unwritten) (none_differs (kind_at k n))
+    agrees : (n : ℕ) → differ (kind_at k n) (kind_now (replicate 32 None) n) ≡ false
+    agrees n = rw (get_or-rep {A = Cell} 32 n None) (none_differs (kind_at k n))
 
-    fines : (n : ℕ) → cell_ok (cell_at (replicate 32 Cell.Unwritten) n) ≡ true
-    fines n = rw (get_or-rep 32 n Cell.Unwritten)
+    fines : (n : ℕ) → cell_ok (cell_at (replicate 32 None) n) ≡ true
+    fines n = rw (get_or-rep {A = Cell} 32 n None)
 
 pub cells_ok_lem : (vs : Vars) → ((n : ℕ) → cell_ok (cell_at vs n) ≡ true) → cells_ok vs ≡ true
 cells_ok_lem [] f = refl
@@ -60,22 +60,22 @@ module _ (vs : Vars) (v : ℕ) (w : Cell) where
       → VarsOk k (set vs v w)
   set-vars {k} o f d = record {
     len = length-set vs v w ∙ o.len;
-    agree = λ n. agrees n (get_d_set vs v w n Cell.Unwritten);
-    fine = λ n. fines n (get_d_set vs v w n Cell.Unwritten);
+    agree = λ n. agrees n (get_d_set vs v w n None);
+    fine = λ n. fines n (get_d_set vs v w n None);
   }
     where
-      agrees : (n : ℕ) → AfterSet vs v w n Cell.Unwritten → differ (kind_at k n) (kind_now (set vs v w) n) ≡ false
+      agrees : (n : ℕ) → AfterSet vs v w n None → differ (kind_at k n) (kind_now (set vs v w) n) ≡ false
       agrees n (inl q) = rw (q.1, q.0) d
       agrees n (inr q) = rw q (o.agree n)
 
-      fines : (n : ℕ) → AfterSet vs v w n Cell.Unwritten → cell_ok (cell_at (set vs v w) n) ≡ true
+      fines : (n : ℕ) → AfterSet vs v w n None → cell_ok (cell_at (set vs v w) n) ≡ true
       fines n (inl q) = rw q.1 f
       fines n (inr q) = rw q (o.fine n)
 
   pub written_up : (n : ℕ) → is_written w ≡ true → written vs n ≡ true → written (set vs v w) n ≡ true
-  written_up n e h = go (get_d_set vs v w n Cell.Unwritten)
+  written_up n e h = go (get_d_set vs v w n None)
     where
-      go : AfterSet vs v w n Cell.Unwritten → written (set vs v w) n ≡ true
+      go : AfterSet vs v w n None → written (set vs v w) n ≡ true
       go (inl q) = rw q.1 e
       go (inr q) = rw q h
 
@@ -88,7 +88,7 @@ module _ (vs : Vars) (v : ℕ) (w : Cell) where
   cover-set su l u e c n h = go (get_d_set su v true n false)
     where
       go : AfterSet su v true n false → written (set vs v w) n ≡ true
-      go (inl q) = rw (q.0, get_or-set_same vs v w Cell.Unwritten (omega arith)) e
+      go (inl q) = rw (q.0, get_or-set_same vs v w None (omega arith)) e
       go (inr q) = written_up n e (c n (sym q ∙ h))
 
 -- ---- reading a name: what the checker knows of it is so
@@ -99,18 +99,18 @@ alike_eq Kind.Whole Kind.Real h = no' h
 alike_eq Kind.Real Kind.Whole h = no' h
 alike_eq Kind.Real Kind.Real h = refl
 
-same_kind : (a b : Known) → is_known a ≡ true → is_known b ≡ true → differ a b ≡ false → b ≡ a
-same_kind Known.Unknown b p q h = no' p
-same_kind (Known.Of j) Known.Unknown p q h = no' q
-same_kind (Known.Of j) (Known.Of k) p q h = ap Known.Of (sym (alike_eq j k (not-false (alike_kind j k) h)))
+same_kind : (a b : Option Kind) → is_known a ≡ true → is_known b ≡ true → differ a b ≡ false → b ≡ a
+same_kind None b p q h = no' p
+same_kind (Some j) None p q h = no' q
+same_kind (Some j) (Some k) p q h = ap Some (sym (alike_eq j k (not-false (alike_kind j k) h)))
 
 known_cell : (w : Cell) → is_written w ≡ true → is_known (cell_kind w) ≡ true
-known_cell Cell.Unwritten h = h
-known_cell (Cell.Holds v t) h = refl
+known_cell None h = h
+known_cell (Some (v, t)) h = refl
 
-pub cell_kind_lem : (w : Cell) → is_written w ≡ true → cell_kind w ≡ Known.Of (kind_of (cell_value w))
-cell_kind_lem Cell.Unwritten h = no' h
-cell_kind_lem (Cell.Holds v t) h = refl
+pub cell_kind_lem : (w : Cell) → is_written w ≡ true → cell_kind w ≡ Some (kind_of (cell_value w))
+cell_kind_lem None h = no' h
+cell_kind_lem (Some (v, t)) h = refl
 
 -- what the checker knows of the names holds of the run: those of su are written and have a kind
 pub record Knows (k : Kinds) (su : Names) (vs : Vars) : Type 0 where

@@ -1,4 +1,5 @@
 -- A run of an accepted text in parts, as many as one likes.
+use Rattle.std.proofs.Common.{Option, None, Ok}
 use Prim.Native.Nat.{ℕ, zero, suc}
 use mathlib.Core.Path.{◌≡◌, refl, sym, ap, subst, ◌∙◌}
 use mathlib.Core.Bool.{Bool, true, false, cond}
@@ -7,8 +8,8 @@ use native.Mathlib.Omega.{arith}
 use lib.Dec.{eqb}
 use lib.ListN.{length, replicate}
 use borrow.Author.Tests.{eqb-true}
+use Rattle.table.specs.declared.Kind.{Kind}
 use Rattle.table.specs.declared.Item.{Item}
-use Rattle.table.specs.declared.Known.{Known}
 use Rattle.table.specs.declared.Table.{Table}
 use Rattle.table.specs.Shape.{in_shape, items_of}
 use Rattle.table.specs.ReadWrite.{lowest}
@@ -40,7 +41,7 @@ go_tells : (n i : ℕ) (v : Verdict) → Tells v → Tells (or_go n i v)
 go_tells zero i v f = f
 go_tells (suc n) i v f = λ e. absurd (omega (arith, e))
 
-walk_tells : (k : List Known) (i : ℕ) (s : Walked) (xs : List Item) → Tells (walk k i s xs)
+walk_tells : (k : List (Option Kind)) (i : ℕ) (s : Walked) (xs : List Item) → Tells (walk k i s xs)
 walk_tells k i s [] = go_tells (lowest (refusals_at_end s)) i accepted (λ e. refl)
 walk_tells k i s (x ∷ xs) =
     go_tells (lowest (refusals k s x)) i (walk k (suc i) (after s x) xs) (walk_tells k (suc i) (after s x) xs)
@@ -50,7 +51,7 @@ line_tells t accepted f = λ e. refl
 line_tells t (refused n i) f = λ e. ap (λ (v : Verdict). at_line t v) (f e)
 
 walked_tells : (t : Table) → Tells (walked t)
-walked_tells t = walk_tells (kinds_of (replicate 32 Known.Unknown) (items_of t)) 0 begin (items_of t)
+walked_tells t = walk_tells (kinds_of (replicate 32 None) (items_of t)) 0 begin (items_of t)
 
 verdict_tells : (size : ℕ) (t : Table) → Tells (verdict size t)
 unfolding verdict
@@ -107,20 +108,20 @@ passed text ps o e z = go (eqb (loaded text).number 0) refl e
 -- ---- on and on
 
 pub on_and_on : OnAndOn
-on_and_on text ps r calls e z h =
+on_and_on text ps r calls e h =
     let size = length text in
     let t = (loaded text).table in
     let qs = steps_of_all calls in
-    let m = r.ran.state in
-    let p = passed text ps (meaning r) e z in
+    let m = r.state in
+    let p = passed text ps (meaning (Ok r)) e refl in
     let c = all_chain size t m calls h in
     let at : state_of m ≡ (run_from size t fresh ps).last = ap (λ (x : Course). x.last) p.came in
     let onward : Promises size t (state_of m) qs =
     subst (λ (x : State). Promises size t x qs) (sym at) (safe_onward size t p.ok ps qs) in
     record {
       whole =
-          ap (λ (x : Course). followed (course_of r.ran) x) c.says
-          ∙ ap (λ (x : State). followed (course_of r.ran) (run_from size t x qs)) at
+          ap (λ (x : Course). followed (course_of r) x) c.says
+          ∙ ap (λ (x : State). followed (course_of r) (run_from size t x qs)) at
           ∙ ap (λ (x : Course). followed x (run_from size t (run_from size t fresh ps).last qs)) p.came
           ∙ sym (in_parts size t fresh ps qs);
       promises = safe size t p.ok (ps ++ qs);

@@ -1,4 +1,5 @@
 -- What a caller is told, by the answers of the loader and of the checker.
+use Rattle.std.proofs.Common.{Result, Ok}
 use Prim.Native.Nat.{ℕ}
 use mathlib.Core.Path.{◌≡◌, refl, sym, ap, subst, ◌∙◌}
 use mathlib.Core.Bool.{Bool, true, false, cond}
@@ -9,16 +10,13 @@ use native.Mathlib.Omega.{arith}
 use lib.ListN.{length, take}
 use lib.Seq.{take-take}
 use Rattle.table.specs.declared.Table.{Table}
-use Rattle.argument.specs.declared.Refusal.{Refusal}
+use Rattle.argument.specs.declared.Refusal.{Refusal as Form}
 use Rattle.argument.specs.Refusal.{number_of as form_number}
-use Rattle.loader.specs.declared.Answer.TheVariants as Answer
-use Rattle.loader.specs.declared.Loaded.{Loaded}
-use Rattle.loader.specs.Load.{loaded, meaning as loaded_meaning}
+use Rattle.loader.specs.Load as loads
+use Rattle.loader.specs.Load.{loaded}
 use Rattle.loader.proofs.Walk.{not_zero}
-use Rattle.rules.specs.declared.Refusal.{Refusal as Rule}
-use Rattle.rules.specs.declared.Verdict.{Verdict as Judgement}
 use Rattle.rules.specs.Check.{Verdict, accepted, refused, verdict}
-use Rattle.rules.specs.Verdict.{number_of as rule_number, meaning as verdict_meaning}
+use Rattle.vetting.specs.declared.Refusal.{Refusal}
 use Rattle.state.specs.declared.Control.{Control}
 use Rattle.state.specs.declared.Offer.{Offer}
 use Rattle.state.specs.State.{fresh}
@@ -26,35 +24,37 @@ use Rattle.course.specs.declared.Steps.{Steps}
 use Rattle.course.specs.declared.Ran.{Ran}
 use Rattle.state.specs.Meaning.{state_of, Neat}
 use Rattle.state.specs.declared.State as coded
-use Rattle.course.specs.Course.{run_from, all_told, steps_of, course_of, all_stay, resting_all, ExactRun}
+use Rattle.course.specs.Course.{Course, run_from, all_told, steps_of, course_of, all_stay, resting_all, ExactRun}
 use Rattle.course.proofs.Resting.{all_alike}
 use Rattle.steps.proofs.Resting.{alike_neat}
 use Rattle.table.specs.Shape.{items_of}
 use Rattle.safety.specs.Safety.{all_allowed}
-use Rattle.safety.specs.declared.Checked.{Checked}
-use Rattle.safety.specs.Outcome.{Outcome, refusal, judged, checked_outcome, outcome, Fixed, meaning, ExactOutcome}
+use Rattle.safety.specs.Outcome.{Outcome, refusal, judged, checked_outcome, outcome, Fixed, FixedIn, meaning}
+use Rattle.safety.specs.Outcome.{ExactOutcome}
 use Rattle.safety.proofs.Safe.{answers_allowed}
 
-module _ (size : ℕ) (t : Table) (ps : List (Control × Offer)) (v : Judgement) (p : verdict_meaning v ≡ verdict size t)
-  where
-    pub rules_yes : v ≡ Judgement.Accepted
-        → checked_outcome size t ps ≡ record { number = 0; line = 0; course = run_from size t fresh ps }
-    unfolding checked_outcome
-    rules_yes e = rw (← p, e)
+abbrev pub accepted_with : Course → Outcome
+accepted_with c = record { number = 0; line = 0; course = c }
 
-    pub rules_no : (r : Rule) (k : ℕ) → v ≡ Judgement.Refused r k
-        → checked_outcome size t ps ≡ refusal (rule_number r) k
-    unfolding checked_outcome
-    rules_no r k e = rw (← p, e)
+module _ (size : ℕ) (t : Table) (ps : List (Control × Offer)) where
+  pub rules_yes : {c : Course} → accepted ≡ verdict size t → c ≡ run_from size t fresh ps
+      → accepted_with c ≡ checked_outcome size t ps
+  unfolding checked_outcome
+  rules_yes p e = rw (← p, e)
 
-module _ (text : List ℕ) (ps : List (Control × Offer)) (l : Loaded) (p : loaded_meaning l ≡ loaded text) where
-  pub form_yes : l.answer ≡ Answer.Accepted → outcome text ps ≡ checked_outcome (length text) l.table ps
+  pub rules_no : (n k : ℕ) → refused n k ≡ verdict size t → refusal n k ≡ checked_outcome size t ps
+  unfolding checked_outcome
+  rules_no n k p = rw (← p)
+
+module _ (text : List ℕ) (ps : List (Control × Offer)) where
+  pub form_yes : {t : Table} → loads.meaning (Ok t) ≡ loaded text → checked_outcome (length text) t ps ≡ outcome text ps
   unfolding outcome
-  form_yes e = rw (← p, e)
+  form_yes p = rw (← p)
 
-  pub form_no : (r : Refusal) (k : ℕ) → l.answer ≡ Answer.Refused r k → outcome text ps ≡ refusal (form_number r) k
+  pub form_no : (why : Form) (k : ℕ) → loads.refusal (form_number why) k ≡ loaded text
+      → refusal (form_number why) k ≡ outcome text ps
   unfolding outcome
-  form_no r k e = rw (← p, e, ne_eqb (form_number r) 0 (not_zero r))
+  form_no why k p = rw (← p, ne_eqb (form_number why) 0 (not_zero why))
 
 -- ---- the promise
 
@@ -78,7 +78,8 @@ promised text ps = go (eqb (loaded text).number 0)
     go false = refl
 
 -- an answer that says what it should, and leaves nothing else in it
-pub exact : {text : List ℕ} {ps : List (Control × Offer)} {r : Checked} → meaning r ≡ outcome text ps → Fixed r.ran
+pub exact : {text : List ℕ} {ps : List (Control × Offer)} {r : Result Ran (Refusal × ℕ)} → meaning r ≡ outcome text ps
+    → FixedIn r
     → ExactOutcome text ps r
 exact {text} {ps} said leaves =
     record {

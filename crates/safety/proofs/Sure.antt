@@ -1,4 +1,5 @@
 -- Every name that the checker is sure of has a kind by then.
+use Rattle.std.proofs.Common.{Option, Some, None}
 use Prim.Native.Nat.{ℕ, ◌<◌}
 use mathlib.Core.Path.{◌≡◌, refl, sym, ap, ◌∙◌}
 use mathlib.Core.Logic.{inl, inr}
@@ -9,13 +10,12 @@ use lib.Dec.{ltb}
 use lib.ListN.{length, set, length-set}
 use lib.Seq.{get_or-set_same}
 use borrow.Author.Tests.{not-false}
+use Rattle.table.specs.declared.Kind.{Kind}
 use Rattle.table.specs.declared.Operand.TheVariants as Operand
 use Rattle.table.specs.declared.Act.{Act}
 use Rattle.table.specs.declared.Head.{Head}
 use Rattle.table.specs.declared.Item.{Item}
 use Rattle.table.specs.declared.Sort.{Sort}
-use Rattle.table.specs.declared.Kind.TheVariants as Kind
-use Rattle.table.specs.declared.Known.{Known}
 use Rattle.table.specs.declared.Write.{Write}
 use Rattle.table.specs.ReadWrite.{act_reads, reads_of, act_writes, head_writes, writes_of, Kinds, kind_at, kind_in}
 use Rattle.table.specs.ReadWrite.{Names}
@@ -41,22 +41,22 @@ Giving k [] = Unit {0}
 Giving k (Write.Like n x ∷ gs) =
     (n < 32) × (is_known (kind_in (kind_at k) x) ≡ true) × Giving (set k n (or_else (kind_at k n) (kind_in
     (kind_at k) x))) gs
-Giving k (Write.Float n ∷ gs) = (n < 32) × Giving (set k n (or_else (kind_at k n) (Known.Of Kind.Real))) gs
+Giving k (Write.Float n ∷ gs) = (n < 32) × Giving (set k n (or_else (kind_at k n) (Some Kind.Real))) gs
 
-known_or : (a b : Known) → is_known b ≡ true → is_known (or_else a b) ≡ true
-known_or Known.Unknown b h = h
-known_or (Known.Of j) b h = refl
+known_or : (a b : Option Kind) → is_known b ≡ true → is_known (or_else a b) ≡ true
+known_or None b h = h
+known_or (Some j) b h = refl
 
-known_orl : (a b : Known) → is_known a ≡ true → is_known (or_else a b) ≡ true
-known_orl Known.Unknown b h = no' h
-known_orl (Known.Of j) b h = refl
+known_orl : (a b : Option Kind) → is_known a ≡ true → is_known (or_else a b) ≡ true
+known_orl None b h = no' h
+known_orl (Some j) b h = refl
 
 -- a kind once known stays
-kind_up : (k : Kinds) (v : ℕ) (y : Known) (n : ℕ) → is_known (kind_at k n) ≡ true
+kind_up : (k : Kinds) (v : ℕ) (y : Option Kind) (n : ℕ) → is_known (kind_at k n) ≡ true
     → is_known (kind_at (set k v (or_else (kind_at k v) y)) n) ≡ true
-kind_up k v y n h = go (get_d_set k v (or_else (kind_at k v) y) n Known.Unknown)
+kind_up k v y n h = go (get_d_set k v (or_else (kind_at k v) y) n None)
   where
-    go : AfterSet k v (or_else (kind_at k v) y) n Known.Unknown
+    go : AfterSet k v (or_else (kind_at k v) y) n None
         → is_known (kind_at (set k v (or_else (kind_at k v) y)) n) ≡ true
     go (inl q) = ap is_known q.1 ∙ known_orl (kind_at k v) y (ap (λ (m : ℕ). is_known (kind_at k m)) (sym q.0) ∙ h)
     go (inr q) = ap is_known q ∙ h
@@ -65,16 +65,16 @@ pub learn_up : (gs : List Write) (k : Kinds) (n : ℕ) → is_known (kind_at k n
     → is_known (kind_at (learn k gs) n) ≡ true
 learn_up [] k n h = h
 learn_up (Write.Like v x ∷ gs) k n h = learn_up gs _ n (kind_up k v (kind_in (kind_at k) x) n h)
-learn_up (Write.Float v ∷ gs) k n h = learn_up gs _ n (kind_up k v (Known.Of Kind.Real) n h)
+learn_up (Write.Float v ∷ gs) k n h = learn_up gs _ n (kind_up k v (Some Kind.Real) n h)
 
 -- what is put is known, where the kind given is
-set_known : (s : Names) (k : Kinds) (v : ℕ) (y : Known) → length k ≡ 32 → v < 32 → is_known y ≡ true → Within s k
+set_known : (s : Names) (k : Kinds) (v : ℕ) (y : Option Kind) → length k ≡ 32 → v < 32 → is_known y ≡ true → Within s k
     → Within (set s v true) (set k v (or_else (kind_at k v) y))
 set_known s k v y l u e w n h = go (get_d_set s v true n false)
   where
     go : AfterSet s v true n false → is_known (kind_at (set k v (or_else (kind_at k v) y)) n) ≡ true
     go (inl q) =
-        rw (q.0, get_or-set_same k v (or_else (kind_at k v) y) Known.Unknown (omega arith)) (known_or (kind_at k v) y e)
+        rw (q.0, get_or-set_same k v (or_else (kind_at k v) y) None (omega arith)) (known_or (kind_at k v) y e)
     go (inr q) = kind_up k v y n (w n (sym q ∙ h))
 
 put_known : (gs : List Write) (s : Names) (k : Kinds) → length k ≡ 32 → Within s k → Giving k gs
@@ -83,7 +83,7 @@ put_known [] s k l w g = w
 put_known (Write.Like v x ∷ gs) s k l w g =
     put_known gs _ _ (length-set k v _ ∙ l) (set_known s k v (kind_in (kind_at k) x) l g.0 g.1 w) g.2
 put_known (Write.Float v ∷ gs) s k l w g =
-    put_known gs _ _ (length-set k v _ ∙ l) (set_known s k v (Known.Of Kind.Real) l g.0 refl w) g.1
+    put_known gs _ _ (length-set k v _ ∙ l) (set_known s k v (Some Kind.Real) l g.0 refl w) g.1
 
 pub learn-length : (gs : List Write) (k : Kinds) → length (learn k gs) ≡ length k
 learn-length [] k = refl

@@ -1,4 +1,5 @@
 -- The checker's walk over the items of an accepted script: the state before each item, and what its tests said of it.
+use Rattle.std.proofs.Common.{None}
 use Prim.Native.Nat.{ℕ, zero, suc, ◌≤◌, ◌<◌}
 use mathlib.Core.Path.{◌≡◌, refl, sym, ap, ◌∙◌}
 use mathlib.Core.Bool.{Bool, true, false, not, ◌&&◌, ◌||◌}
@@ -11,7 +12,6 @@ use Rattle.table.specs.declared.Operand.{Operand}
 use Rattle.table.specs.declared.Branch.{Branch}
 use Rattle.table.specs.declared.Close.{Close}
 use Rattle.table.specs.declared.Item.{Item}
-use Rattle.table.specs.declared.Known.TheVariants as Known
 use Rattle.table.specs.declared.Write.{Write}
 use Rattle.table.specs.Item.{is_open, is_tag, fits}
 use Rattle.table.specs.ReadWrite.{reads_of, writes_of, Kinds, kind_at, wrong, wrong_write, Names, has, missing}
@@ -26,7 +26,7 @@ use Rattle.safety.proofs.Laws.{or_l, or_r, and_l, and_r, skip}
 
 -- the kinds of the whole text
 abbrev pub text_kinds : List Item → Kinds
-text_kinds items = kinds_of (replicate 32 Known.Unknown) items
+text_kinds items = kinds_of (replicate 32 None) items
 
 -- the items of a script that the checker accepts
 pub record Accepted (names size : ℕ) (items : List Item) : Type 0 where
@@ -40,7 +40,7 @@ state su l p tg = record { sure = su; boxes = l; packed = p; tagged = tg }
 
 -- s is the state before item i, k the kinds from the items before it, xs the items from there on
 pub data Reach (items : List Item) : ℕ → Placed → Kinds → List Item → Type 0 where
-  outset : Reach items 0 at_start (replicate 32 Known.Unknown) items
+  outset : Reach items 0 at_start (replicate 32 None) items
   more : {i : ℕ} {s : Placed} {k : Kinds} {x : Item} {xs : List Item} → Reach items i s k (x ∷ xs)
       → Reach items (suc i) (after i s x) (learn k (writes_of x)) xs
 

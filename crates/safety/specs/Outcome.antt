@@ -1,11 +1,11 @@
 -- What a caller is told: the refusal of a text, or what a run of it from fresh comes to, a control and an offer for
 -- each step.
-use Rattle.std.specs.Prelude.{ℕ, ◌≡◌, true, cond, List, [], ◌++◌, eqb, length}
+use Rattle.std.specs.Prelude.{ℕ, ◌≡◌, true, cond, List, [], ◌++◌, eqb, length, Result, Ok, Err}
 use Rattle.table.specs.declared.Table.{Table}
-use Rattle.argument.specs.Refusal.{number_of as form_number}
 use Rattle.loader.specs.Load.{loaded}
 use Rattle.rules.specs.Check.{Verdict, accepted, refused, verdict}
-use Rattle.rules.specs.Verdict.{number_of as rule_number}
+use Rattle.vetting.specs.declared.Refusal.{Refusal}
+use Rattle.vetting.specs.Vet.{number_of}
 use Rattle.state.specs.declared.Control.{Control}
 use Rattle.state.specs.declared.Offer.{Offer}
 use Rattle.course.specs.declared.Ran.{Ran}
@@ -14,8 +14,6 @@ use Rattle.state.specs.Meaning.{state_of, Neat}
 use Rattle.course.specs.Course.{Course, run_from, course_of, BlankRun}
 use Rattle.course.specs.Parts.{followed, Call, Called, steps_of_all, course_of_all}
 use Rattle.safety.specs.Safety.{Promises, all_allowed}
-use Rattle.safety.specs.declared.Judged.{Judged}
-use Rattle.safety.specs.declared.Checked.{Checked}
 
 -- 01's number and line, both 0 where the script is accepted
 pub record Outcome : Type 0 where
@@ -45,45 +43,40 @@ outcome text ps =
 
 -- ---- what the code's answer stands for
 
-abbrev pub number_of : Judged → ℕ
-number_of Judged.Accepted = 0
-number_of (Judged.Form r k) = form_number r
-number_of (Judged.Rules r k) = rule_number r
-
-abbrev pub line_of : Judged → ℕ
-line_of Judged.Accepted = 0
-line_of (Judged.Form r k) = k
-line_of (Judged.Rules r k) = k
-
-abbrev pub meaning : Checked → Outcome
-meaning r = record { number = number_of r.judged; line = line_of r.judged; course = course_of r.ran }
+abbrev pub meaning : Result Ran (Refusal × ℕ) → Outcome
+meaning (Ok r) = record { number = 0; line = 0; course = course_of r }
+meaning (Err (why, line)) = refusal (number_of why) line
 
 -- past the open boxes, the answers and the things stands nothing
 pub record Fixed (r : Ran) : Type 0 where
   pub neat : Neat r.state
   pub blank : BlankRun r
 
+-- a refusal holds no run
+abbrev pub FixedIn : Result Ran (Refusal × ℕ) → Type 0
+FixedIn (Ok r) = Fixed r
+FixedIn (Err e) = Unit {0}
+
 -- the answer r to a text and its steps: what it says; demand 3 of each step; and nothing else is left in it
-pub record ExactOutcome (text : List ℕ) (ps : List (Control × Offer)) (r : Checked) : Type 0 where
+pub record ExactOutcome (text : List ℕ) (ps : List (Control × Offer)) (r : Result Ran (Refusal × ℕ)) : Type 0 where
   pub says : meaning r ≡ outcome text ps
-  pub allowed : all_allowed (course_of r.ran).answers ≡ true
-  pub fixed : Fixed r.ran
+  pub allowed : all_allowed (meaning r).course.answers ≡ true
+  pub fixed : FixedIn r
 
 -- ---- more than 64 steps
 
 -- `run` has answered r to the steps ps of an accepted text, and `course::run` is called as often as one likes, first
 -- from the state in r and then each time from the state that it handed back: all of it is one run from fresh, and
 -- demand 3 holds of every step
-pub record GoesOn (text : List ℕ) (ps : List (Control × Offer)) (r : Checked) (calls : List Call) : Type 0 where
-  pub whole : followed (course_of r.ran) (course_of_all (state_of r.ran.state) calls)
+pub record GoesOn (text : List ℕ) (ps : List (Control × Offer)) (r : Ran) (calls : List Call) : Type 0 where
+  pub whole : followed (course_of r) (course_of_all (state_of r.state) calls)
       ≡ run_from (length text) (loaded text).table fresh (ps ++ steps_of_all calls)
   pub promises : Promises (length text) (loaded text).table fresh (ps ++ steps_of_all calls)
-  pub onward : Promises (length text) (loaded text).table (state_of r.ran.state) (steps_of_all calls)
-  pub allowed : all_allowed (course_of_all (state_of r.ran.state) calls).answers ≡ true
+  pub onward : Promises (length text) (loaded text).table (state_of r.state) (steps_of_all calls)
+  pub allowed : all_allowed (course_of_all (state_of r.state) calls).answers ≡ true
 
 abbrev pub OnAndOn : Type 0
-OnAndOn = (text : List ℕ) (ps : List (Control × Offer)) (r : Checked) (calls : List Call)
-    → meaning r ≡ outcome text ps
-    → number_of r.judged ≡ 0
-    → Called (length text) (loaded text).table r.ran.state calls
+OnAndOn = (text : List ℕ) (ps : List (Control × Offer)) (r : Ran) (calls : List Call)
+    → meaning (Ok r) ≡ outcome text ps
+    → Called (length text) (loaded text).table r.state calls
     → GoesOn text ps r calls

@@ -3,89 +3,29 @@
 #![tactic(auto)]
 
 ghost use Rattle.std.specs.Prelude.{◌≡◌, length};
-ghost use Rattle.course.specs.Course.{steps_of, course_of};
-ghost use Rattle.safety.specs.Outcome.{none, refusal, checked_outcome, ExactOutcome, Fixed};
-ghost use Rattle.safety.specs.Outcome.{number_of, line_of, meaning};
+ghost use Rattle.course.specs.Course.{steps_of};
+ghost use Rattle.safety.specs.Outcome.{checked_outcome, meaning, FixedIn, ExactOutcome};
 
-use argument::Refusal;
-use course::{Ran, Said, Steps};
-use state::{Answer, Thing, What};
+use course::{Ran, Steps};
 use table::Table;
+use vetting::Refusal;
 
-// By the checker; or refused by form or by a rule, at a line.
-#[derive(Clone, Copy)]
-pub enum Judged {
-    Accepted,
-    Form(Refusal, usize),
-    Rules(rules::Refusal, usize),
-}
-
-// No step is taken where the text is refused.
-#[derive(Clone, Copy)]
-pub struct Checked {
-    pub judged: Judged,
-    pub ran: Ran,
-}
-
-// A run from fresh of which no step is taken.
-fn not_run() -> Ran
-    ensures { (course_of result ≡ none) × Fixed result }
+fn check_and_run(text: &[u8], table: Table, steps: Steps) -> Result<Ran, (Refusal, usize)>
+    ensures { (meaning result ≡ checked_outcome (length text.now) table (steps_of steps)) × FixedIn result }
 {
-    let answers = [Said {
-        answer: Answer::Running,
-        things: 0,
-    }; 64];
-    let things = [Thing {
-        what: What::Nothing,
-    }; 512];
-    let state = state::fresh();
-    Ran {
-        state: state,
-        answers: answers,
-        count: 0,
-        things: things,
-        handed: 0,
+    match rules::check(text, table) {
+        Ok(()) => Ok(course::run(text, table, state::fresh(), steps, steps.count)),
+        Err((rule, line)) => Err((Refusal::Rules(rule), line)),
     }
 }
 
-fn refused(judged: Judged) -> Checked
-    ensures { (meaning result ≡ refusal (number_of judged) (line_of judged)) × Fixed result.ran }
-{
-    let ran = not_run();
-    Checked {
-        judged: judged,
-        ran: ran,
-    }
-}
-
-fn check_and_run(text: &[u8], table: Table, steps: Steps) -> Checked
-    ensures { (meaning result ≡ checked_outcome (length text.now) table (steps_of steps))
-        × Fixed result.ran }
-{
-    let verdict = rules::check(text, table);
-    match verdict {
-        rules::Verdict::Accepted => {
-            let ran = course::run(text, table, state::fresh(), steps, steps.count);
-            Checked {
-                judged: Judged::Accepted,
-                ran: ran,
-            }
-        }
-        rules::Verdict::Refused(refusal, line) => refused(Judged::Rules(refusal, line)),
-    }
-}
-
-// Loads, checks and runs up to 64 steps from fresh.
-pub fn run(text: &[u8], steps: Steps) -> Checked
+// Loads, checks and runs up to 64 steps from fresh. No step is taken where the text is refused, by form or by a rule,
+// at a line.
+pub fn run(text: &[u8], steps: Steps) -> Result<Ran, (Refusal, usize)>
     ensures { ExactOutcome text.now (steps_of steps) result }
 {
-    let loaded = loader::load(text);
-    let answer = loaded.answer;
-    match answer {
-        loader::Answer::Accepted => {
-            let table = loaded.table;
-            check_and_run(text, table, steps)
-        }
-        loader::Answer::Refused(why, line) => refused(Judged::Form(why, line)),
+    match loader::load(text) {
+        Ok(table) => check_and_run(text, table, steps),
+        Err((why, line)) => Err((Refusal::Form(why), line)),
     }
 }

@@ -12,14 +12,14 @@ use lib.Pow.{shr-shr, pow-lt}
 use lib.Bits.{bit_and, bit_or, and_step, or_step, or_zero_r, shifted_half, shifted_even}
 use borrow.Author.Tests.{eq-eqb, ne_eqb, eqb-true, eqb-false}
 use Rattle.table.specs.ReadWrite.{Names, has}
-use Rattle.sets.specs.Names.{both, either, outside, bits_of, names_of, nothing, everything}
+use Rattle.sets.specs.Names.{both, either, outside, bits_of, set_of, NameSet, names_of, nothing, everything}
 
-pub none_there : names_of 0 ≡ nothing
-unfolding names_of bits_of
+pub none_there : set_of 0 ≡ nothing
+unfolding set_of bits_of
 none_there = refl
 
-pub all_there : names_of 4294967295 ≡ everything
-unfolding names_of bits_of
+pub all_there : set_of 4294967295 ≡ everything
+unfolding set_of bits_of
 all_there = refl
 
 pub length-bits : (n w : ℕ) → length (bits_of n w) ≡ n
@@ -27,8 +27,8 @@ unfolding bits_of
 length-bits zero w = refl
 length-bits (suc n) w = ap suc (length-bits n (w / 2))
 
-pub length-names : (w : ℕ) → length (names_of w) ≡ 32
-unfolding names_of
+pub length-names : (w : ℕ) → length (set_of w) ≡ 32
+unfolding set_of
 length-names w = length-bits 32 w
 
 -- ---- the lowest bit and the others
@@ -63,12 +63,12 @@ bit_at (suc m) w zero h =
 bit_at (suc m) w (suc n) h =
     bit_at m (w / 2) n (le_of_suc-le-suc h) ∙ ap (λ (x : ℕ). eqb (x % 2) 1) (halved w n)
 
-pub there : (w n : ℕ) → n < 32 → eqb (w / 2 ^ n % 2) 1 ≡ has (names_of w) n
-unfolding names_of
+pub there : (w n : ℕ) → n < 32 → eqb (w / 2 ^ n % 2) 1 ≡ has (set_of w) n
+unfolding set_of
 there w n h = sym (bit_at 32 w n h)
 
-pub not_there : (w n : ℕ) → 32 ≤ n → false ≡ has (names_of w) n
-not_there w n h = sym (get_or-eq_default (names_of w) _ (omega (arith, length-names w)))
+pub not_there : (w n : ℕ) → 32 ≤ n → false ≡ has (set_of w) n
+not_there w n h = sym (get_or-eq_default (set_of w) _ (omega (arith, length-names w)))
 
 -- ---- two sets, bit by bit
 
@@ -99,8 +99,8 @@ both_bits (suc m) a b =
     split_bits m (bit_and (a / 2) (b / 2)) (min (a % 2) (b % 2)) (bit_and a b) (and_step a b) d.1
     ∙ ap₂ (λ (x : Bool) (l : Names). x ∷ l) d.0 (both_bits m (a / 2) (b / 2))
 
-pub both_names : (a b : ℕ) → names_of (bit_and a b) ≡ both (names_of a) (names_of b)
-unfolding names_of
+pub both_names : (a b : ℕ) → set_of (bit_and a b) ≡ both (set_of a) (set_of b)
+unfolding set_of
 both_names a b = both_bits 32 a b
 
 either_bits : (m a b : ℕ) → bits_of m (bit_or a b) ≡ either (bits_of m a) (bits_of m b)
@@ -111,8 +111,8 @@ either_bits (suc m) a b =
     split_bits m (bit_or (a / 2) (b / 2)) (max (a % 2) (b % 2)) (bit_or a b) (or_step a b) d.1
     ∙ ap₂ (λ (x : Bool) (l : Names). x ∷ l) d.0 (either_bits m (a / 2) (b / 2))
 
-pub either_names : (a b : ℕ) → names_of (bit_or a b) ≡ either (names_of a) (names_of b)
-unfolding names_of
+pub either_names : (a b : ℕ) → set_of (bit_or a b) ≡ either (set_of a) (set_of b)
+unfolding set_of
 either_names a b = either_bits 32 a b
 
 -- ---- a name more
@@ -132,8 +132,8 @@ put_bits (suc m) w (suc n) h =
     (bit w)
     ∙ ap (λ (l : Names). eqb (w % 2) 1 ∷ l) (put_bits m (w / 2) n (le_of_suc-le-suc h))
 
-pub put_name : (w n : ℕ) → n < 32 → names_of (bit_or w (1 * 2 ^ n % 2 ^ 32)) ≡ set (names_of w) n true
-unfolding names_of
+pub put_name : (w n : ℕ) → n < 32 → set_of (bit_or w (1 * 2 ^ n % 2 ^ 32)) ≡ set (set_of w) n true
+unfolding set_of
 put_name w n h =
     let e : 1 * 2 ^ n < 2 ^ 32 = subst (λ (x : ℕ). x < 2 ^ 32) (sym (one-mul (2 ^ n))) (pow-lt h) in
     ap (λ (x : ℕ). bits_of 32 (bit_or w x)) (mod-eq_of_lt e) ∙ put_bits 32 w n h
@@ -143,8 +143,8 @@ set_beyond [] n b h = refl
 set_beyond (x ∷ l) zero b h = absurd (not-suc-le-zero h)
 set_beyond (x ∷ l) (suc n) b h = ap (λ (t : Names). x ∷ t) (set_beyond l n b (le_of_suc-le-suc h))
 
-pub put_none : (w n : ℕ) → 32 ≤ n → names_of w ≡ set (names_of w) n true
-put_none w n h = set_beyond (names_of w) n true (omega (arith, length-names w))
+pub put_none : (w n : ℕ) → 32 ≤ n → set_of w ≡ set (set_of w) n true
+put_none w n h = set_beyond (set_of w) n true (omega (arith, length-names w))
 
 -- ---- a name of the first set is not in the second: the two do not have in common what the first has
 
@@ -183,8 +183,8 @@ outside_bits (suc m) a b h =
     ∙ outside_step (bit_and (a / 2) (b / 2)) (a / 2) (a % 2) (b % 2) _ (bit a) (bit b)
     (outside_bits m (a / 2) (b / 2) (half_below m a h))
 
-pub outside_names : (a b : ℕ) → a < 2 ^ 32 → not (eqb (bit_and a b) a) ≡ outside (names_of a) (names_of b)
-unfolding names_of
+pub outside_names : (a b : ℕ) → a < 2 ^ 32 → not (eqb (bit_and a b) a) ≡ outside (set_of a) (set_of b)
+unfolding set_of
 outside_names a b h = outside_bits 32 a b h
 
 -- ---- no two words are one set
@@ -206,6 +206,13 @@ same_bits (suc m) x y h k e =
     let high : x / 2 ≡ y / 2 = same_bits m (x / 2) (y / 2) (half_below m x h) (half_below m y k) (ap (drop 1) e) in
     omega arith
 
-pub one_word : {x y : ℕ} → x < 2 ^ 32 → y < 2 ^ 32 → names_of x ≡ names_of y → x ≡ y
-unfolding names_of
-one_word {x} {y} h k e = same_bits 32 x y h k e
+same_word : {x y : ℕ} → x < 2 ^ 32 → y < 2 ^ 32 → set_of x ≡ set_of y → x ≡ y
+unfolding set_of
+same_word {x} {y} h k e = same_bits 32 x y h k e
+
+pub one_word : (x y : NameSet) → x.0 < 2 ^ 32 → y.0 < 2 ^ 32 → names_of x ≡ names_of y → x ≡ y
+one_word x y h k e = λ i. record { 0 = (same_word h k e) i }
+
+-- what the operations on sets cite, for their attributes
+pub ruleset sets =
+    (none_there, all_there, there, not_there, put_name, put_none, both_names, either_names, outside_names)

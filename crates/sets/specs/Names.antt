@@ -5,6 +5,7 @@ use Rattle.table.specs.ReadWrite.{Names}
 use Rattle.table.specs.declared.Operand.{Operand}
 use Rattle.table.specs.declared.Read.{Read}
 use Rattle.table.specs.declared.Write.{Write}
+pub use Rattle.sets.specs.declared.NameSet.{NameSet}
 
 abbrev pub nothing : Names
 nothing = replicate 32 false
@@ -51,5 +52,8 @@ bits_of zero w = []
 bits_of (suc n) w = eqb (w % 2) 1 ∷ bits_of n (w / 2)
 
 -- the set that a word stands for
-unfoldable pub names_of : ℕ → Names
-names_of w = bits_of 32 w
+unfoldable pub set_of : ℕ → Names
+set_of w = bits_of 32 w
+
+abbrev pub names_of : NameSet → Names
+names_of s = set_of s.0

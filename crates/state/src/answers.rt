@@ -4,22 +4,24 @@ ghost use Rattle.state.specs.State as rules;
 ghost use Rattle.state.specs.State.{is_held};
 ghost use Rattle.state.specs.Meaning.{fault_number, code_of, refusal_number, status_of, answer_of};
 
-use super::{Answer, Fault, LoopSort, Refusal, Status, Stop, Thing, What};
+use super::{Answer, Fault, LoopSort, Refusal, Status, Stop, What};
 
 // The number of a fault.
-pub fn number_of_fault(fault: Fault) -> u8
-    ensures { result ≡ fault_number fault }
-{
-    match fault {
-        Fault::Unwritten => 60,
-        Fault::Kind => 61,
-        Fault::Box => 62,
-        Fault::Depth => 63,
-        Fault::Package => 64,
+impl From<Fault> for u8 {
+    ghost from_gives = { λ fault r. r ≡ fault_number fault };
+
+    fn from(fault: Fault) -> u8 {
+        match fault {
+            Fault::Unwritten => 60,
+            Fault::Kind => 61,
+            Fault::Box => 62,
+            Fault::Depth => 63,
+            Fault::Package => 64,
+        }
     }
 }
 
-// The code by which a run stops.
+// The code by which a run stops. `Stop` is the crate `value`'s, so that no conversion of it can stand here.
 pub fn code_of_stop(stop: Stop) -> u16
     ensures { result ≡ code_of stop }
 {
@@ -30,35 +32,29 @@ pub fn code_of_stop(stop: Stop) -> u16
 }
 
 // The number of a refusal.
-pub fn number_of_refusal(refusal: Refusal) -> u8
-    ensures { result ≡ refusal_number refusal }
-{
-    match refusal {
-        Refusal::Shape => 30,
-        Refusal::Reading => 31,
+impl From<Refusal> for u8 {
+    ghost from_gives = { λ refusal r. r ≡ refusal_number refusal };
+
+    fn from(refusal: Refusal) -> u8 {
+        match refusal {
+            Refusal::Shape => 30,
+            Refusal::Reading => 31,
+        }
     }
 }
 
 // Eight times nothing, for what a step hands out.
-pub fn no_things() -> [Thing; 8]
-    ensures { result ≡ replicate 8 (record { what = What.Nothing }) }
+pub fn no_things() -> [What; 8]
+    ensures { result ≡ replicate 8 What.Nothing }
 {
-    let nothing = What::Nothing;
-    [Thing { what: nothing }; 8]
+    [What::Nothing; 8]
 }
 
 // Waiting or refused.
 fn is_held(a: Answer) -> bool
     ensures { result ≡ is_held (answer_of a) }
 {
-    match a {
-        Answer::Running => false,
-        Answer::Waiting => true,
-        Answer::Finished => false,
-        Answer::Stopped(_) => false,
-        Answer::Fault(_) => false,
-        Answer::Refused(_) => true,
-    }
+    matches!(a, Answer::Waiting | Answer::Refused(_))
 }
 
 // A step that takes no item: it is waiting or refused, or the run had ended before it.
@@ -67,9 +63,7 @@ pub fn stays(before: Status, a: Answer) -> bool
 {
     match before {
         Status::Live => is_held(a),
-        Status::Finished => true,
-        Status::Stopped(_) => true,
-        Status::Fault(_) => true,
+        Status::Finished | Status::Stopped(_) | Status::Fault(_) => true,
     }
 }
 
@@ -77,8 +71,5 @@ pub fn stays(before: Status, a: Answer) -> bool
 pub fn measures(s: LoopSort) -> bool
     ensures { result ≡ rules.measures s }
 {
-    match s {
-        LoopSort::Loop => false,
-        LoopSort::Sweep => true,
-    }
+    matches!(s, LoopSort::Sweep)
 }

@@ -6,25 +6,23 @@ ghost use Rattle.state.specs.Meaning.{state_of};
 use super::{Cell, State};
 use value::Value;
 
-const NAMES: usize = 32;
-
 // What a name holds; a name that is not written reads as the whole number 0.
 pub fn cell_value(c: Cell) -> Value
     ensures { result ≡ cell_value c }
 {
     match c {
-        Cell::Unwritten => Value::Whole(0),
-        Cell::Holds(v, _) => v,
+        None => Value::Whole(0),
+        Some((v, _)) => v,
     }
 }
 
-// The type of what a name holds, 0 where it is not written.
+// The type of what a name holds; 01 has 0 for that of a name that is not written.
 pub fn cell_type(c: Cell) -> u16
     ensures { result ≡ cell_type c }
 {
     match c {
-        Cell::Unwritten => 0,
-        Cell::Holds(_, t) => t,
+        None => 0,
+        Some((_, t)) => t,
     }
 }
 
@@ -33,8 +31,8 @@ fn cell_ok(c: Cell) -> bool
     ensures { result ≡ cell_ok c }
 {
     match c {
-        Cell::Unwritten => true,
-        Cell::Holds(v, _) => value::is_finite(v),
+        None => true,
+        Some((v, _)) => value::is_finite(v),
     }
 }
 
@@ -42,14 +40,5 @@ fn cell_ok(c: Cell) -> bool
 pub fn cells_ok(m: State) -> bool
     ensures { result ≡ cells_ok (state_of m).vars }
 {
-    let mut i = 0;
-    while i < NAMES {
-        let v = m.vars[i];
-        let c = v.cell;
-        if !cell_ok(c) {
-            return false;
-        }
-        i += 1;
-    }
-    true
+    m.vars.iter().all(|c| cell_ok(*c))
 }

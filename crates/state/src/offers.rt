@@ -2,66 +2,43 @@
 ghost use Rattle.std.specs.Prelude.{◌≡◌};
 ghost use Rattle.value.specs.Arithmetic.{checked};
 ghost use Rattle.state.specs.State as rules;
-ghost use Rattle.state.specs.Meaning.{meets_of};
+ghost use Rattle.state.specs.Meaning.{wanted_of, meets_of};
 
-use super::{Meets, Offer};
-use value::{Calculated, Value};
+use super::{Meets, Offer, Stop, Wanted};
+use value::Value;
 
-// What an offer is to an item that wants nothing.
-pub fn asks_nothing(o: Offer) -> Meets
-    ensures { meets_of result ≡ rules.meets rules.wants_nothing o }
+// What an offer is to an item that wants this.
+pub fn offered(wanted: Wanted, o: Offer) -> Meets
+    ensures { meets_of result ≡ rules.meets (wanted_of wanted) o }
 {
-    match o {
-        Offer::Nothing => Meets::Ready,
-        Offer::Float(_) => Meets::Amiss,
-        Offer::Point(_) => Meets::Amiss,
-        Offer::Done => Meets::Amiss,
-    }
-}
-
-// What an offer is to an item that wants one float.
-pub fn asks_float(o: Offer) -> Meets
-    ensures { meets_of result ≡ rules.meets rules.wants_float o }
-{
-    match o {
-        Offer::Nothing => Meets::Short,
-        Offer::Float(_) => Meets::Ready,
-        Offer::Point(_) => Meets::Amiss,
-        Offer::Done => Meets::Amiss,
-    }
-}
-
-// What an offer is to an item that wants a point or that the points are done.
-pub fn asks_point(o: Offer) -> Meets
-    ensures { meets_of result ≡ rules.meets rules.wants_point o }
-{
-    match o {
-        Offer::Nothing => Meets::Short,
-        Offer::Float(_) => Meets::Amiss,
-        Offer::Point(_) => Meets::Ready,
-        Offer::Done => Meets::Ready,
+    match (wanted, o) {
+        (Wanted::Nothing, Offer::Nothing) => Meets::Ready,
+        (Wanted::Float, Offer::Float(_)) => Meets::Ready,
+        (Wanted::Point, Offer::Point(_) | Offer::Done) => Meets::Ready,
+        (Wanted::Float | Wanted::Point, Offer::Nothing) => Meets::Short,
+        _ => Meets::Amiss,
     }
 }
 
 // A float, if it is finite.
-fn finite_float(x: f64) -> Calculated
+#[tactic(auto, unfolding(value::specs::Arithmetic::checked, value::specs::Arithmetic::finite))]
+fn finite_float(x: f64) -> Result<Value, Stop>
     ensures { result ≡ checked x }
 {
     if value::is_finite(Value::Real(x)) {
-        Calculated::Value(Value::Real(x))
+        Ok(Value::Real(x))
     } else {
-        Calculated::NotFinite
+        Err(Stop::NotFinite)
     }
 }
 
 // The reading in an offer: its float, if that is finite. An offer without a float counts as not finite.
-pub fn reading_of(o: Offer) -> Calculated
+#[tactic(auto, unfolding(value::specs::Arithmetic::checked, value::specs::Arithmetic::is_finite))]
+pub fn reading_of(o: Offer) -> Result<Value, Stop>
     ensures { result ≡ checked (rules.reading o) }
 {
     match o {
-        Offer::Nothing => Calculated::NotFinite,
         Offer::Float(x) => finite_float(x),
-        Offer::Point(_) => Calculated::NotFinite,
-        Offer::Done => Calculated::NotFinite,
+        Offer::Nothing | Offer::Point(_) | Offer::Done => Err(Stop::NotFinite),
     }
 }

@@ -1,4 +1,6 @@
 -- What stays in bounds: the places that an item leads to, the values that are kept, and the boxes that are left open.
+use Rattle.std.proofs.Common.{Result, Ok, Err}
+use Rattle.value.specs.declared.Stop.{Stop}
 use Prim.Native.Nat.{ℕ, zero, suc, ◌+◌, ◌≤◌, ◌<◌, zero-le}
 use mathlib.Core.Path.{◌≡◌, refl, ap}
 use mathlib.Core.Bool.{Bool, true, false, not, ◌&&◌, cond, true≢false}
@@ -11,7 +13,6 @@ use lib.Dec.{eqb, ltb, leb}
 use lib.ListN.{length, set, drop, length-drop, drop_of_length-le}
 use borrow.Author.Tests.{ltb-true, ltb-false}
 pub use Rattle.laws.proofs.Bools.{and_t}
-use Rattle.value.specs.declared.Calculated.{Calculated}
 use Rattle.value.specs.declared.Operation.{Operation}
 use Rattle.value.specs.declared.Value.{Value}
 use Rattle.value.specs.Arithmetic.{finite, is_finite, calculated, checked, wholes, reals, is_zero}
@@ -21,7 +22,7 @@ use Rattle.table.specs.Item.{is_close, is_loop, opens_a}
 use Rattle.table.specs.ReadWrite.{lowest, condition_reads}
 use Rattle.mates.specs.declared.Open.{Open}
 use Rattle.mates.specs.Mates.{scan, boxes_at, belongs, close_from, close_of, item_at, past}
-use Rattle.state.specs.declared.Cell.{Cell}
+use Rattle.state.specs.State.{Cell}
 use Rattle.state.specs.State.{Vars, cell_at, holds, State, cell_ok, cells_ok}
 use Rattle.steps.specs.Machine.{Chosen, into, beyond, bad, or_bad, read_faults, tried, choose, unwind, outside}
 use Rattle.steps.specs.Machine.{inside, is_none, opens_ok}
@@ -112,18 +113,18 @@ cell_at_lem [] n e = refl
 cell_at_lem (v ∷ vs) zero e = and_l (cell_ok v) (cells_ok vs) e
 cell_at_lem (v ∷ vs) (suc n) e = cell_at_lem vs n (and_r (cell_ok v) (cells_ok vs) e)
 
-abbrev pub Fine : Calculated → Type 0
-Fine (Calculated.Value v) = finite v ≡ true
-Fine Calculated.ByZero = Unit {0}
-Fine Calculated.NotFinite = Unit {0}
+abbrev pub Fine : Result Value Stop → Type 0
+Fine (Ok v) = finite v ≡ true
+Fine (Err Stop.ByZero) = Unit {0}
+Fine (Err Stop.NotFinite) = Unit {0}
 
-fine_cond : (b : Bool) (c d : Calculated) → (b ≡ true → Fine c) → Fine d → Fine (cond b c d)
+fine_cond : (b : Bool) (c d : Result Value Stop) → (b ≡ true → Fine c) → Fine d → Fine (cond b c d)
 fine_cond true c d p q = p refl
 fine_cond false c d p q = q
 
 pub checked_fine : (x : Float) → Fine (checked x)
 unfolding checked finite
-checked_fine x = fine_cond (is_finite x) (Calculated.Value (Value.Real x)) Calculated.NotFinite (λ e. e) tt
+checked_fine x = fine_cond (is_finite x) (Ok (Value.Real x)) (Err Stop.NotFinite) (λ e. e) tt
 
 wholes_fine : (o : Operation) (a b : ℤ) → Fine (wholes o a b)
 unfolding wholes finite
@@ -139,7 +140,7 @@ unfolding reals
 reals_fine Operation.Add a b = checked_fine _
 reals_fine Operation.Sub a b = checked_fine _
 reals_fine Operation.Mul a b = checked_fine _
-reals_fine Operation.Div a b = fine_cond (is_zero b) Calculated.ByZero _ (λ e. tt) (checked_fine _)
+reals_fine Operation.Div a b = fine_cond (is_zero b) (Err Stop.ByZero) _ (λ e. tt) (checked_fine _)
 
 pub calculated_fine : (o : Operation) (a b : Value) → Fine (calculated o a b)
 unfolding calculated

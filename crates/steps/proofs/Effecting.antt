@@ -1,4 +1,5 @@
 -- An effect is 01's step: for every item, for an abort, for the end of the items and for a run that has ended.
+use Rattle.std.proofs.Common.{Some, None, Option as Maybe}
 use Prim.Native.Nat.{ℕ, zero, suc, ◌≤◌, ◌<◌}
 use mathlib.Core.Path.{◌≡◌, refl, sym, ap, ◌∙◌}
 use mathlib.Core.Bool.{Bool, true, false, not, ◌&&◌, ◌||◌, cond, true≢false, false≢true, and-true}
@@ -16,7 +17,7 @@ use Rattle.table.specs.ReadWrite.{lowest, breaks_order}
 use Rattle.mates.specs.Mates.{item_at, boxes_at, past, close_of}
 use Rattle.state.specs.declared.Answer.TheVariants as Answer
 use Rattle.state.specs.declared.Control.{Control}
-use Rattle.state.specs.declared.Fault.TheVariants as Fault
+use Rattle.state.specs.declared.Fault.{Fault}
 use Rattle.state.specs.declared.LoopSort.TheVariants as LoopSort
 use Rattle.state.specs.declared.Offer.{Offer}
 use Rattle.state.specs.declared.Status.{Status}
@@ -28,7 +29,6 @@ use Rattle.effect.specs.declared.Chosen.{Chosen}
 use Rattle.effect.specs.declared.Effect.{Effect}
 use Rattle.effect.specs.declared.Looked.{Looked}
 use Rattle.effect.specs.declared.Spot.{Spot}
-use Rattle.effect.specs.declared.Trouble.{Trouble}
 use Rattle.effect.specs.Code as effects
 use Rattle.operands.specs.Code as operands
 use Rattle.steps.specs.Machine as rules
@@ -201,12 +201,12 @@ module _ {xs : List Item} {vs : Vars} {s : Spot} {k : Looked} (os : List Out) (l
         (drop s.at xs)
     item_is = go (effects.fault_of s x k.cells k.around.stray) refl
       where
-        go : (t : Trouble) → effects.fault_of s x k.cells k.around.stray ≡ t
+        go : (t : Maybe Fault) → effects.fault_of s x k.cells k.around.stray ≡ t
             → step_of os vs (effects.unless (effects.or_else t (effects.chosen_fault k.chosen)) s inner) ≡ rules.at_item
             xs (live_state vs before) run o (drop s.at xs)
-        go (Trouble.Fault f) e =
+        go (Some f) e =
             item_faults xs (live_state vs before) run o x q g.item f (sym fault_is ∙ ap trouble_of e)
-        go Trouble.None e =
+        go None e =
             let h = sym fault_is ∙ ap trouble_of e in
             let c = unfaulted xs run x h in
             unless_is k.chosen (chosen_at xs run x) g.chosen (states.meets (states.wanted_by x) o)

@@ -1,4 +1,5 @@
 -- The faults of an item, by the cells that are read for it.
+use Rattle.std.proofs.Common.{Option, Some, None}
 use Prim.Native.Nat.{ℕ, ◌≤◌, ◌<◌}
 use mathlib.Core.Path.{◌≡◌, refl, ap}
 use mathlib.Core.Bool.{Bool, true, false, not, ◌&&◌, cond}
@@ -6,25 +7,24 @@ use mathlib.Core.List.{List, [], ◌∷◌}
 use lib.Dec.{ltb, leb}
 use lib.ListN.{length}
 use borrow.Author.Tests.{lt-leb, le-leb, ltb-true, ltb-false}
-use Rattle.value.specs.declared.Value.TheVariants as Value
+use Rattle.value.specs.declared.Value.{Value}
 use Rattle.table.specs.declared.Act.TheVariants as Act
 use Rattle.table.specs.declared.Condition.{Condition}
 use Rattle.table.specs.declared.Head.TheVariants as Head
 use Rattle.table.specs.declared.Item.{Item}
 use Rattle.table.specs.declared.Kind.TheVariants as Kind
-use Rattle.table.specs.declared.Known.TheVariants as Known
 use Rattle.table.specs.declared.Operand.{Operand}
 use Rattle.table.specs.declared.Pack.TheVariants as Pack
 use Rattle.table.specs.ReadWrite.{lowest, condition_reads, missing, wrong, gone, kind_in, differ}
-use Rattle.state.specs.declared.Cell.{Cell}
+use Rattle.state.specs.State.{Cell}
 use Rattle.state.specs.State as states
 use Rattle.state.specs.State.{Vars, cell_at, cell_kind, is_written, written, kind_now}
 use Rattle.state.specs.Meaning.{tops, fault_number}
 use Rattle.state.proofs.Boxes.{tops-length}
-use Rattle.operands.specs.declared.Cells.{Cells}
+use Rattle.operands.specs.Code.{Cells}
 use Rattle.effect.specs.declared.Need.TheVariants as Need
+use Rattle.state.specs.declared.Fault.{Fault}
 use Rattle.effect.specs.declared.Spot.{Spot}
-use Rattle.effect.specs.declared.Trouble.{Trouble}
 use Rattle.effect.specs.Code as effects
 use Rattle.operands.specs.Code as operands
 use Rattle.steps.specs.Machine.{inside, too_deep, reads}
@@ -41,22 +41,22 @@ pub room_if : (l : List ℕ) (d : ℕ) → (leb 8 (length (tops l d)) && true) �
 room_if l d e = rw (tops-length l d) at (room (length (tops l d)) true e refl)
 
 gone_cell : (c : Cell) → effects.is_gone c ≡ not (is_written c)
-gone_cell Cell.Unwritten = refl
-gone_cell (Cell.Holds v t) = refl
+gone_cell None = refl
+gone_cell (Some (v, t)) = refl
 
-whole_cell : (c : Cell) → effects.is_whole c ≡ differ (cell_kind c) (Known.Of Kind.Real)
-whole_cell Cell.Unwritten = refl
-whole_cell (Cell.Holds (Value.Whole z) t) = refl
-whole_cell (Cell.Holds (Value.Real x) t) = refl
+whole_cell : (c : Cell) → effects.is_whole c ≡ differ (cell_kind c) (Some Kind.Real)
+whole_cell None = refl
+whole_cell (Some (Value.Whole z, t)) = refl
+whole_cell (Some (Value.Real x, t)) = refl
 
 kinds_cell : (a b : Cell) → effects.kinds_differ a b ≡ differ (cell_kind a) (cell_kind b)
-kinds_cell Cell.Unwritten b = refl
-kinds_cell (Cell.Holds (Value.Whole z) t) Cell.Unwritten = refl
-kinds_cell (Cell.Holds (Value.Whole z) t) (Cell.Holds (Value.Whole y) u) = refl
-kinds_cell (Cell.Holds (Value.Whole z) t) (Cell.Holds (Value.Real y) u) = refl
-kinds_cell (Cell.Holds (Value.Real z) t) Cell.Unwritten = refl
-kinds_cell (Cell.Holds (Value.Real z) t) (Cell.Holds (Value.Whole y) u) = refl
-kinds_cell (Cell.Holds (Value.Real z) t) (Cell.Holds (Value.Real y) u) = refl
+kinds_cell None b = refl
+kinds_cell (Some (Value.Whole z, t)) None = refl
+kinds_cell (Some (Value.Whole z, t)) (Some (Value.Whole y, u)) = refl
+kinds_cell (Some (Value.Whole z, t)) (Some (Value.Real y, u)) = refl
+kinds_cell (Some (Value.Real z, t)) None = refl
+kinds_cell (Some (Value.Real z, t)) (Some (Value.Whole y, u)) = refl
+kinds_cell (Some (Value.Real z, t)) (Some (Value.Real y, u)) = refl
 
 module _ (vs : Vars) where
   gone_is : (z : Operand) (c : Cell) → operand_cell vs z ≡ c → effects.is_gone c ≡ gone (written vs) z
@@ -68,7 +68,7 @@ module _ (vs : Vars) where
   kind_is (Operand.Literal l) = refl
 
   whole_is : (z : Operand) (c : Cell) → operand_cell vs z ≡ c
-      → effects.is_whole c ≡ differ (kind_in (kind_now vs) z) (Known.Of Kind.Real)
+      → effects.is_whole c ≡ differ (kind_in (kind_now vs) z) (Some Kind.Real)
   whole_is z c e = rw (← e, kind_is z) (whole_cell (operand_cell vs z))
 
   kinds_are : (y z : Operand) (b c : Cell) → operand_cell vs y ≡ b → operand_cell vs z ≡ c
@@ -184,9 +184,9 @@ module _ (vs : Vars) (s : Spot) (d : s.depth ≤ 8) where
       go true e = shallow x (ltb-true s.depth 8 e)
       go false e = deep_item_lem x (ltb-false s.depth 8 e)
 
-abbrev pub trouble_of : Trouble → ℕ
-trouble_of Trouble.None = 0
-trouble_of (Trouble.Fault f) = fault_number f
+abbrev pub trouble_of : Option Fault → ℕ
+trouble_of None = 0
+trouble_of (Some f) = fault_number f
 
 pub fault_number_lem : (a b c d e : Bool) → trouble_of (effects.or_else (effects.read_fault a b)
     (effects.mark_fault c d e))

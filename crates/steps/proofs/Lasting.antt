@@ -1,5 +1,7 @@
 -- On every table in shape, a step from a state in shape leaves a state in shape: 30 never comes of the machine's own
 -- doing.
+use Rattle.std.proofs.Common.{Some, Result, Ok, Err}
+use Rattle.value.specs.declared.Stop.{Stop}
 use Prim.Native.Nat.{ℕ, zero, suc, ◌≤◌, ◌<◌, zero-le}
 use mathlib.Core.Path.{◌≡◌, refl, sym, ◌∙◌}
 use mathlib.Core.Bool.{Bool, true, false, not, ◌&&◌, ◌||◌, cond}
@@ -11,7 +13,6 @@ use lib.Dec.{ltb, leb}
 use lib.ListN.{length, get_or, set, drop, length-drop, drop_of_length-le}
 use lib.Seq.{drop-cons}
 use borrow.Author.Tests.{ltb-true, ltb-false, lt-ltb}
-use Rattle.value.specs.declared.Calculated.{Calculated}
 use Rattle.value.specs.declared.Value.{Value}
 use Rattle.value.specs.Arithmetic.{finite, calculated, checked}
 use Rattle.table.specs.declared.Act.{Act}
@@ -26,7 +27,6 @@ use Rattle.table.specs.Item.{is_open, is_loop, is_sweep, opens_a, sort_of}
 use Rattle.table.specs.ReadWrite.{lowest}
 use Rattle.table.specs.Shape.{in_shape, items_of, items_ok, item_ok}
 use Rattle.mates.specs.Mates.{boxes_at, close_of, item_at, past}
-use Rattle.state.specs.declared.Cell.TheVariants as Cell
 use Rattle.state.specs.declared.Control.{Control}
 use Rattle.state.specs.declared.LoopSort.{LoopSort}
 use Rattle.state.specs.declared.Offer.{Offer}
@@ -67,13 +67,13 @@ module _ (xs : List Item) where
   end_lasts : (m : State) (t : Status) → Shaped xs m → Shaped xs (end_with m t)
   end_lasts m t s = record { at = s.at; few = s.few; boxes = s.boxes; cells = s.cells }
 
-  kept_lasts : (m : State) (n t : ℕ) (c : Calculated) → Shaped xs m → m.at < length xs → Fine c
+  kept_lasts : (m : State) (n t : ℕ) (c : Result Value Stop) → Shaped xs m → m.at < length xs → Fine c
       → Shaped xs (kept m n t c).next
-  kept_lasts m n t (Calculated.Value v) s h f =
+  kept_lasts m n t (Ok v) s h f =
       next_lasts (keep m (write m.vars n v t))
-      (keep_lasts m (write m.vars n v t) s (cells-set m.vars n (Cell.Holds v t) s.cells f)) h
-  kept_lasts m n t Calculated.ByZero s h f = end_lasts m (stopped_run runs.code0028) s
-  kept_lasts m n t Calculated.NotFinite s h f = end_lasts m (stopped_run code0010) s
+      (keep_lasts m (write m.vars n v t) s (cells-set m.vars n (Some (v, t)) s.cells f)) h
+  kept_lasts m n t (Err Stop.ByZero) s h f = end_lasts m (stopped_run runs.code0028) s
+  kept_lasts m n t (Err Stop.NotFinite) s h f = end_lasts m (stopped_run code0010) s
 
   module _ (names size : ℕ) where
     stored_fine : (v : ℕ) (l : Value) (t : ℕ) → item_ok names size (Item.Act (Act.Store v l t)) ≡ true → finite l ≡ true
@@ -86,7 +86,7 @@ module _ (xs : List Item) where
     act_lasts m (Act.Store v l t) o s h e =
         next_lasts (keep m (write m.vars v l t))
         (keep_lasts m (write m.vars v l t) s
-        (cells-set m.vars v (Cell.Holds l t) s.cells (stored_fine v l t e))) h
+        (cells-set m.vars v (Some (l, t)) s.cells (stored_fine v l t e))) h
     act_lasts m (Act.Copy a b) o s h e =
         next_lasts (keep m (set m.vars b (cell_at m.vars a)))
         (keep_lasts m (set m.vars b (cell_at m.vars a)) s
@@ -142,9 +142,9 @@ module _ (xs : List Item) where
       cond_lasts (finite (Value.Real x) && finite (Value.Real y)) _ _
       (λ q.
       let us = write m.vars w.potential (Value.Real x) da in
-      let first = cells-set m.vars w.potential (Cell.Holds (Value.Real x) da) s.cells
+      let first = cells-set m.vars w.potential (Some (Value.Real x, da)) s.cells
       (and_l (finite (Value.Real x)) (finite (Value.Real y)) q) in
-      let second = cells-set us w.current (Cell.Holds (Value.Real y) ba) first
+      let second = cells-set us w.current (Some (Value.Real y, ba)) first
       (and_r (finite (Value.Real x)) (finite (Value.Real y)) q) in
       let vs = write us w.current (Value.Real y) ba in
       enter_lasts LoopSort.Sweep (keep m vs) (keep_lasts m vs s second) h b e)

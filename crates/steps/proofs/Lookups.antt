@@ -1,4 +1,5 @@
 -- What is looked up of table, marks and names for one step.
+use Rattle.std.proofs.Common.{Option, Some, None}
 use Prim.Native.Nat.{ℕ, zero, suc, ◌+◌, ◌≤◌, ◌<◌}
 use mathlib.Core.Path.{◌≡◌, refl, sym, ap, ◌∙◌}
 use mathlib.Core.Bool.{Bool, true, false, cond}
@@ -32,14 +33,13 @@ use Rattle.state.proofs.Names.{no_var, vars_get, vars-set, vars-length}
 use Rattle.effect.specs.Code as effects
 use Rattle.operands.specs.Code as operands
 use Rattle.effect.specs.declared.Effect.{Effect}
-use Rattle.operands.specs.declared.Places.{Places}
+use Rattle.operands.specs.Code.{Places}
 use Rattle.effect.specs.declared.Spot.{Spot}
-use Rattle.operands.specs.declared.Written.{Written}
-use Rattle.operands.specs.declared.Operands.{Operands}
-use Rattle.operands.specs.declared.Cells.{Cells}
-use Rattle.effect.specs.declared.Tried.{Tried}
-use Rattle.state.specs.declared.Cell.{Cell}
-use Rattle.state.specs.declared.Var.{Var}
+use Rattle.operands.specs.Code.{Written}
+use Rattle.operands.specs.Code.{Operands}
+use Rattle.operands.specs.Code.{Cells}
+use Rattle.effect.specs.declared.Chosen.{Chosen}
+use Rattle.state.specs.State.{Cell}
 use Rattle.steps.specs.Machine as rules
 use Rattle.steps.specs.Machine.{choose, tried, tag_from}
 use Rattle.steps.specs.Code.{wrote, operand_cell, Reads, chosen_of, tried_by, tried_at, chosen_at, live_state, or_last}
@@ -49,15 +49,15 @@ use Rattle.steps.proofs.Stepping.{tag_hit, tag_miss, tag_none}
 
 -- ---- the row of names
 
-past_row : (l : List Var) (n : ℕ) → length l ≤ n → cell_at (cells_of l) n ≡ Cell.Unwritten
+past_row : (l : List Cell) (n : ℕ) → length l ≤ n → cell_at (cells_of l) n ≡ None
 past_row [] n h = refl
 past_row (v ∷ l) zero h = absurd (not-suc-le-zero h)
 past_row (v ∷ l) (suc n) h = past_row l n (le_of_suc-le-suc h)
 
-set_same : (l : List Var) (n : ℕ) → set l n (get_or l n no_var) ≡ l
+set_same : (l : List Cell) (n : ℕ) → set l n (get_or l n no_var) ≡ l
 set_same [] n = refl
 set_same (v ∷ l) zero = refl
-set_same (v ∷ l) (suc n) = ap {B = List Var} (λ r. v ∷ r) (set_same l n)
+set_same (v ∷ l) (suc n) = ap {B = List Cell} (λ r. v ∷ r) (set_same l n)
 
 set_past : (vs : Vars) (n : ℕ) (c : Cell) → length vs ≤ n → set vs n c ≡ vs
 set_past [] n c h = refl
@@ -76,8 +76,8 @@ place_below (Operand.Name n) = row_below n
 place_below (Operand.Literal l) = omega arith
 
 pub write_below : (w : Written) → operands.write_place w < 32
-write_below Written.Nothing = omega arith
-write_below (Written.Put n c) = row_below n
+write_below None = omega arith
+write_below (Some (n, c)) = row_below n
 
 -- places in the row
 pub record Below (l : Places) : Type 0 where
@@ -93,7 +93,7 @@ places_below o e =
 pub written_below : (w : Written) {p : ℕ} → p ≡ operands.write_place w → p < 32
 written_below w e = rw e (write_below w)
 
-module _ (l : List Var) (h : length l ≡ 32) where
+module _ (l : List Cell) (h : length l ≡ 32) where
   fetched : (x : Operand) → operand_cell (cells_of l) x ≡ operands.cell_of x (get_or l (operands.place_of x) no_var)
   fetched (Operand.Literal v) = refl
   fetched (Operand.Name n) = go (ltb n 32) refl
@@ -121,13 +121,13 @@ module _ (l : List Var) (h : length l ≡ 32) where
       → cells_of (set l (operands.write_place w) (operands.write_over w (get_or l
       (operands.write_place w) no_var))) ≡ wrote w
       (cells_of l)
-  stored Written.Nothing = ap cells_of (set_same l 0)
-  stored (Written.Put n c) = go (ltb n 32) refl
+  stored None = ap cells_of (set_same l 0)
+  stored (Some (n, c)) = go (ltb n 32) refl
     where
       go : (b : Bool) → ltb n 32 ≡ b
           → cells_of (set l (operands.in_row n) (operands.put_in n c (get_or l (operands.in_row n) no_var)))
           ≡ set (cells_of l) n c
-      go true e = rw e (vars-set l n (record { cell = c }))
+      go true e = rw e (vars-set l n (c))
       go false e =
           rw e (ap cells_of (set_same l 0)
           ∙ sym (set_past (cells_of l) n c (omega (arith, vars-length l, h, ltb-false n 32 e))))
@@ -216,16 +216,17 @@ module _ (vs : Vars) (k : Cells) (j : ℕ) (h : j < 128) where
 abbrev pub mates : List Item → Vars → ℕ → ℕ → rules.Chosen
 mates xs vs p j = choose vs p j (boxes_at xs j) (drop j xs)
 
-pub goes_on : (f : Tried) (j n : ℕ) → effects.tries_on f j n ≡ true → (f ≡ Tried.Next) × (j < n)
-goes_on (Tried.Go c) j n e = no' e
-goes_on Tried.Next j n e = (refl, ltb-true j n e)
+pub goes_on : (f : Option Chosen) (j n : ℕ) → effects.tries_on f j n ≡ true → (f ≡ None) × (j < n)
+goes_on (Some c) j n e = no' e
+goes_on None j n e = (refl, ltb-true j n e)
 
-pub tried_all : (f : Tried) (xs : List Item) (vs : Vars) (p j n : ℕ) → effects.tries_on f j n ≡ false → length xs ≤ n
+pub tried_all : (f : Option Chosen) (xs : List Item) (vs : Vars) (p j n : ℕ) → effects.tries_on f j n ≡ false
+    → length xs ≤ n
     → chosen_of (effects.chosen_by f) ≡ tried_by f (mates xs vs p j)
-tried_all (Tried.Go c) xs vs p j n e h = refl
-tried_all Tried.Next xs vs p j n e h = sym (choose_none xs vs p j (omega (arith, ltb-false j n e)))
+tried_all (Some c) xs vs p j n e h = refl
+tried_all None xs vs p j n e h = sym (choose_none xs vs p j (omega (arith, ltb-false j n e)))
 
-pub tried_more : (f g : Tried) (xs : List Item) (vs : Vars) (p j : ℕ) (r : rules.Chosen) → f ≡ Tried.Next
+pub tried_more : (f g : Option Chosen) (xs : List Item) (vs : Vars) (p j : ℕ) (r : rules.Chosen) → f ≡ None
     → j < length xs
     → ((o : rules.Chosen) → tried_by g o ≡ tried_at xs vs p j o)
     → tried_by f (mates xs vs p j) ≡ r → tried_by g (mates xs vs p (j + 1)) ≡ r
@@ -252,31 +253,20 @@ first_tried xs vs s (Item.Close e) k h r = refl
 first_tried xs vs s Item.Break k h r = refl
 first_tried xs vs s Item.Tag k h r = refl
 
--- both writes of an effect
-pub stored_both : (l : List Var) (v w : Written) (p q : ℕ) (x y : Var) → length l ≡ 32 → p ≡ operands.write_place v
-    → x ≡ operands.write_over v (get_or l p no_var)
-    → q ≡ operands.write_place w → y ≡ operands.write_over w (get_or (set l p x) q no_var)
-    → cells_of (set (set l p x) q y) ≡ wrote w (wrote v (cells_of l))
-stored_both l v w p q x y h e f g k =
-    let a : cells_of (set l p x) ≡ wrote v (cells_of l) = rw (f, e) (stored l h v) in
-    let b : cells_of (set (set l p x) q y) ≡ wrote w (cells_of (set l p x)) =
-    rw (k, g) (stored (set l p x) (length-set l p x ∙ h) w) in
-    b ∙ ap (λ (z : Vars). wrote w z) a
+length-wrote : (w : Written) (vs : Vars) → length (wrote w vs) ≡ length vs
+length-wrote None vs = refl
+length-wrote (Some (n, c)) vs = length-set vs n c
 
 -- the names after an effect
-pub record RowWritten (vars : List Var) (e : Effect) (after : List Var) : Type 0 where
+pub record RowWritten (vars : List Cell) (e : Effect) (after : List Cell) : Type 0 where
   pub row : length after ≡ 32
   pub cells : cells_of after ≡ wrote e.second (wrote e.first (cells_of vars))
 
--- x is put at p, then y at q
-abbrev pub TwoWritten : List Var → Effect → ℕ → Var → ℕ → Var → Type 0
-TwoWritten l e p x q y = RowWritten l e (set (set l p x) q y)
-
-pub both_written : {vars : List Var} {e : Effect} {p q : ℕ} {x y : Var} → length vars ≡ 32
-    → p ≡ operands.write_place e.first → x ≡ operands.write_over e.first (get_or vars p no_var)
-    → q ≡ operands.write_place e.second → y ≡ operands.write_over e.second (get_or (set vars p x) q no_var)
-    → TwoWritten vars e p x q y
-both_written {vars} {e} {p} {q} {x} {y} h ep ex eq ey = record {
-  row = length-set (set vars p x) q y ∙ length-set vars p x ∙ h;
-  cells = stored_both vars e.first e.second p q x y h ep ex eq ey;
+-- both writes of an effect
+pub both_written : {vars vars₁ vars₂ : List Cell} {e : Effect} → length vars ≡ 32 → vars₁ ≡ wrote e.first vars
+    → vars₂ ≡ wrote e.second vars₁
+    → RowWritten vars e vars₂
+both_written {vars} {e = e} h p q = record {
+  row = rw (q, p) (length-wrote e.second (wrote e.first vars) ∙ length-wrote e.first vars ∙ h);
+  cells = q ∙ ap (λ (vs : Vars). wrote e.second vs) p;
 }

@@ -1,4 +1,5 @@
 -- What an effect makes of a run, for acts, package marks and opening marks.
+use Rattle.std.proofs.Common.{Some, None, Result, Ok, Err}
 use Prim.Native.Nat.{ℕ, zero, suc, ◌-◌, ◌≤◌, ◌<◌}
 use mathlib.Core.Path.{◌≡◌, refl}
 use mathlib.Core.Bool.{Bool, true, false, ◌&&◌, cond}
@@ -8,8 +9,7 @@ use native.Mathlib.Omega.{arith}
 use lib.Dec.{eqb, ltb, eqb-suc-zero}
 use lib.ListN.{length, get_or}
 use borrow.Author.Tests.{lt-ltb}
-use Rattle.value.specs.declared.Calculated.{Calculated}
-use Rattle.value.specs.declared.Value.TheVariants as Value
+use Rattle.value.specs.declared.Value.{Value}
 use Rattle.value.specs.Arithmetic.{finite, calculated, checked}
 use Rattle.table.specs.declared.Act.{Act}
 use Rattle.table.specs.declared.Item.{Item}
@@ -17,11 +17,10 @@ use Rattle.table.specs.declared.Operand.{Operand}
 use Rattle.table.specs.declared.Pack.{Pack}
 use Rattle.table.specs.declared.Sweep.{Sweep}
 use Rattle.mates.specs.Mates.{past, close_of}
-use Rattle.state.specs.declared.Cell.TheVariants as Cell
 use Rattle.state.specs.declared.LoopSort.{LoopSort}
 use Rattle.state.specs.declared.Offer.{Offer}
 use Rattle.state.specs.declared.Point.{Point}
-use Rattle.state.specs.declared.Stop.TheVariants as Stop
+use Rattle.value.specs.declared.Stop.{Stop}
 use Rattle.state.specs.declared.What.TheVariants as What
 use Rattle.state.specs.State as states
 use Rattle.state.specs.State.{Vars, cell_at, cell_value, value_of, Out, State, stops_by, code0010, outer, measures, da}
@@ -30,7 +29,7 @@ use Rattle.state.specs.Meaning.{tops}
 use Rattle.state.proofs.Boxes.{tops_push}
 use Rattle.effect.specs.declared.Chosen.{Chosen}
 use Rattle.effect.specs.declared.Spot.{Spot}
-use Rattle.operands.specs.declared.Written.{Written}
+use Rattle.operands.specs.Code.{Written}
 use Rattle.effect.specs.Code as effects
 use Rattle.operands.specs.Code as operands
 use Rattle.steps.specs.Machine as rules
@@ -69,10 +68,11 @@ operand_value vs (Operand.Name n) = refl
 operand_value vs (Operand.Literal l) = refl
 
 module _ (os : List Out) (vs : Vars) (s : Spot) (h : s.at < 128) where
-  kept_is : (n t : ℕ) (c : Calculated) → step_of os vs (effects.keep_result s n t c) ≡ kept (live_state vs s) n t c
-  kept_is n t (Calculated.Value v) = rw (after_is s.at h)
-  kept_is n t Calculated.ByZero = refl
-  kept_is n t Calculated.NotFinite = refl
+  kept_is : (n t : ℕ) (c : Result Value Stop)
+      → step_of os vs (effects.keep_result s n t c) ≡ kept (live_state vs s) n t c
+  kept_is n t (Ok v) = rw (after_is s.at h)
+  kept_is n t (Err Stop.ByZero) = refl
+  kept_is n t (Err Stop.NotFinite) = refl
 
   pub acted : (a : Act) (o : Offer)
       → step_of os vs (effects.run_act s a (operand_cell vs (operands.act_operands a).a)
@@ -134,7 +134,7 @@ module _ (os : List Out) (vs : Vars) (s : Spot) (h : s.at < 128) (d : s.depth �
           → step_of os vs (cond b
           (effects.saying (effects.leave_to s (effects.below s.depth) i (measures k)) (What.Leave k))
           (effects.acting (effects.leave_to s s.depth i (measures k)) (What.Enter k) (What.Leave k)
-          Written.Nothing Written.Nothing))
+          None None))
           ≡ leave xs k m
       go true e = rw (outer_is s.boxes s.depth) (leave_again xs k m (measures k) i refl f e)
       go false e = leave_empty xs k m (measures k) i refl f e
@@ -145,10 +145,10 @@ module _ (os : List Out) (vs : Vars) (s : Spot) (h : s.at < 128) (d : s.depth �
   chosen_is (Chosen.Bad f) r = refl
 
   abbrev first : Sweep → Point → Written
-  first v p = Written.Put v.potential (Cell.Holds (Value.Real p.potential) da)
+  first v p = Some (v.potential, Some (Value.Real p.potential, da))
 
   abbrev second : Sweep → Point → Written
-  second v p = Written.Put v.current (Cell.Holds (Value.Real p.current) ba)
+  second v p = Some (v.current, Some (Value.Real p.current, ba))
 
   point_is : (v : Sweep) (p : Point) → (inside s.at (open_at s) ≡ false → s.depth < 8)
       → step_of os vs (effects.run_point s v p) ≡ rules.run_point m v p.potential p.current
@@ -173,5 +173,5 @@ module _ (os : List Out) (vs : Vars) (s : Spot) (h : s.at < 128) (d : s.depth �
   pub loop_is : (xs : List Item) (b : Bool) (i : ℕ) → i ≡ past (close_of xs s.at)
       → (inside s.at (open_at s) ≡ false → s.depth < 8)
       → step_of os vs (effects.run_loop s b i) ≡ cond b (enter LoopSort.Loop m) (leave xs LoopSort.Loop m)
-  loop_is xs true i f r = enters_is LoopSort.Loop Written.Nothing Written.Nothing r
+  loop_is xs true i f r = enters_is LoopSort.Loop None None r
   loop_is xs false i f r = leaves_is xs LoopSort.Loop i f

@@ -1,12 +1,13 @@
 -- A step that takes an item neither waits nor is refused, and it hands out at most 8 things.
+use Rattle.std.proofs.Common.{Result, Ok, Err}
+use Rattle.value.specs.declared.Stop.{Stop}
 use Prim.Native.Nat.{ℕ, suc, ◌≤◌, zero-le}
 use mathlib.Core.Path.{◌≡◌, refl}
 use mathlib.Core.Bool.{Bool, true, false, ◌&&◌, ◌||◌, cond}
 use mathlib.Core.List.{List, [], ◌∷◌, ◌++◌}
 use lib.ListN.{length}
 use native.Mathlib.Omega.{arith}
-use Rattle.value.specs.declared.Calculated.{Calculated}
-use Rattle.value.specs.declared.Value.TheVariants as Value
+use Rattle.value.specs.declared.Value.{Value}
 use Rattle.value.specs.Arithmetic.{finite, calculated, checked}
 use Rattle.table.specs.declared.Act.{Act}
 use Rattle.table.specs.declared.Close.{Close}
@@ -53,10 +54,10 @@ few_leaves xs (p ∷ ps) = go (opens_a is_sweep (item_at xs p)) (opens_a is_loop
 
 -- ---- each item
 
-kept_taken : (m : State) (n t : ℕ) (c : Calculated) → Taken (kept m n t c)
-kept_taken m n t (Calculated.Value v) = silent refl refl
-kept_taken m n t Calculated.ByZero = silent refl refl
-kept_taken m n t Calculated.NotFinite = silent refl refl
+kept_taken : (m : State) (n t : ℕ) (c : Result Value Stop) → Taken (kept m n t c)
+kept_taken m n t (Ok v) = silent refl refl
+kept_taken m n t (Err Stop.ByZero) = silent refl refl
+kept_taken m n t (Err Stop.NotFinite) = silent refl refl
 
 act_taken : (m : State) (a : Act) (o : Offer) → Taken (run_act m a o)
 act_taken m (Act.Var v) o = silent refl refl

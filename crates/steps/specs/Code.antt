@@ -1,5 +1,6 @@
 -- What only the code's shape needs: what an effect makes of a run with its names, what is looked up for one step, and
 -- where a run in shape stands.
+use Rattle.std.specs.Prelude.{Some, None, Option as Maybe}
 use Rattle.std.specs.Prelude.{ℕ, suc, ◌≤◌, ◌<◌, ◌≡◌, Bool, true, false, not, ◌&&◌, cond, List, [], ◌∷◌, ◌++◌, eqb, ltb}
 use Rattle.std.specs.Prelude.{leb, length, set}
 use Rattle.std.proofs.Math.Option.{Option, none, some}
@@ -8,26 +9,24 @@ use Rattle.table.specs.declared.Item.{Item}
 use Rattle.table.specs.declared.Operand.{Operand}
 use Rattle.table.specs.Item.{is_open, is_sweep, opens_a}
 use Rattle.mates.specs.Mates.{boxes_at, belongs, close_of, item_at, past}
-use Rattle.state.specs.declared.Cell.{Cell}
+use Rattle.state.specs.State.{Cell}
 use Rattle.state.specs.declared.Control.{Control}
 use Rattle.state.specs.declared.Offer.{Offer}
 use Rattle.state.specs.declared.Status.{Status}
 use Rattle.state.specs.declared.Stepped.{Stepped}
-use Rattle.state.specs.declared.Var.{Var}
 use Rattle.state.specs.declared.What.{What}
 use Rattle.state.specs.State.{Vars, cell_at, Out, State, Step, holds, stays, flagged, outer}
 use Rattle.state.specs.Meaning.{state_of, cells_of, status_of, answer_of, out_of, fault_number, tops, meaning, Neat}
 use Rattle.state.specs.Meaning.{Blank}
 use Rattle.state.specs.declared.State as coded
 use Rattle.effect.specs.declared.Around.{Around}
-use Rattle.operands.specs.declared.Cells.{Cells}
+use Rattle.operands.specs.Code.{Cells}
 use Rattle.effect.specs.declared.Chosen.{Chosen}
 use Rattle.effect.specs.declared.Effect.{Effect}
 use Rattle.effect.specs.declared.Looked.{Looked}
-use Rattle.operands.specs.declared.Operands.{Operands}
+use Rattle.operands.specs.Code.{Operands}
 use Rattle.effect.specs.declared.Spot.{Spot}
-use Rattle.effect.specs.declared.Tried.{Tried}
-use Rattle.operands.specs.declared.Written.{Written}
+use Rattle.operands.specs.Code.{Written}
 use Rattle.operands.specs.Code as operands
 use Rattle.steps.specs.Machine as rules
 use Rattle.steps.specs.Machine.{tried, otherwise, inside, any_open, unwind, astray, is_none, again, moved, told}
@@ -51,8 +50,8 @@ abbrev pub live_state : Vars → Spot → State
 live_state vs s = state_with vs s Status.Live
 
 abbrev pub wrote : Written → Vars → Vars
-wrote Written.Nothing vs = vs
-wrote (Written.Put n c) vs = set vs n c
+wrote None vs = vs
+wrote (Some (n, c)) vs = set vs n c
 
 abbrev pub handed : What → List Out
 handed What.Nothing = []
@@ -82,7 +81,7 @@ step_of os vs e = record {
 -- what an operand holds; a literal as if a name held it
 abbrev pub operand_cell : Vars → Operand → Cell
 operand_cell vs (Operand.Name n) = cell_at vs n
-operand_cell vs (Operand.Literal l) = Cell.Holds l 0
+operand_cell vs (Operand.Literal l) = Some (l, 0)
 
 pub record Reads (vs : Vars) (o : Operands) (k : Cells) : Type 0 where
   pub first : operand_cell vs o.a ≡ k.a
@@ -96,9 +95,9 @@ chosen_of (Chosen.Beyond i) = rules.beyond i
 chosen_of (Chosen.Bad f) = rules.bad (fault_number f)
 
 -- what a mate that is tried leads to, where the mates after it lead to r
-abbrev pub tried_by : Tried → rules.Chosen → rules.Chosen
-tried_by (Tried.Go c) r = chosen_of c
-tried_by Tried.Next r = r
+abbrev pub tried_by : Maybe Chosen → rules.Chosen → rules.Chosen
+tried_by (Some c) r = chosen_of c
+tried_by None r = r
 
 -- the item at j, tried where it belongs to the box that opens at p
 abbrev pub tried_at : List Item → Vars → ℕ → ℕ → rules.Chosen → rules.Chosen
@@ -215,7 +214,7 @@ count_of (What.Order o) = 1
 
 -- the state before, with the flags of a spot, where no step took an item; otherwise the run as it is, with nothing past
 -- its open boxes
-pub record LeftAs (stayed : Bool) (before : coded.State) (s : Spot) (status : Status) (vars : List Var)
+pub record LeftAs (stayed : Bool) (before : coded.State) (s : Spot) (status : Status) (vars : List Cell)
     (r : coded.State) : Type 0 where
   pub kept : stayed ≡ true
       → (state_of r ≡ flagged (state_of before) s.pending s.skip) × (r.boxes ≡ before.boxes)

@@ -12,11 +12,12 @@
 -- They stand here the other way round, since a definition cites only what stands before it: the open boxes, faults, one
 -- item, one step, the state's shape, and `step` last. The names, the run, what a step answers and hands out, what an
 -- item wants and what an offer meets stand in specs/State.antt of the crate `state`.
+use Rattle.std.specs.Prelude.{Result, Ok, Err}
+use Rattle.value.specs.declared.Stop.{Stop}
 use Rattle.std.specs.Prelude.{ℕ, zero, suc, Bool, true, false, not, ◌&&◌, ◌||◌, cond, List, [], ◌∷◌, ◌++◌, eqb, ltb}
 use Rattle.std.specs.Prelude.{leb, length, set, drop, Float}
 use Rattle.std.proofs.Math.Option.{Option, none, some}
-use Rattle.value.specs.declared.Calculated.{Calculated}
-use Rattle.value.specs.declared.Value.TheVariants as Value
+use Rattle.value.specs.declared.Value.{Value}
 use Rattle.value.specs.Arithmetic.{finite, calculated, checked}
 use Rattle.table.specs.declared.Act.{Act}
 use Rattle.table.specs.declared.Branch.TheVariants as Branch
@@ -121,10 +122,10 @@ abbrev pub next : State → State
 next m = goto m (suc m.at) m.boxes
 
 -- a result or a reading is kept, or the run stops and no name is changed
-abbrev pub kept : State → ℕ → ℕ → Calculated → Step
-kept m n t (Calculated.Value v) = said [] (next (keep m (write m.vars n v t)))
-kept m n t Calculated.ByZero = stops_by code0028 m
-kept m n t Calculated.NotFinite = stops_by code0010 m
+abbrev pub kept : State → ℕ → ℕ → Result Value Stop → Step
+kept m n t (Ok v) = said [] (next (keep m (write m.vars n v t)))
+kept m n t (Err Stop.ByZero) = stops_by code0028 m
+kept m n t (Err Stop.NotFinite) = stops_by code0010 m
 
 abbrev pub run_act : State → Act → Offer → Step
 run_act m (Act.Var v) o = said [] (next m)

@@ -1,7 +1,7 @@
 -- What a read's answer means, and what it leaves in the buffer and with the reader. Assumes nothing.
-use Rattle.std.proofs.Common.{◌≡◌, ℕ, zero, suc, ◌+◌, ◌-◌, ◌<◌, ◌≤◌, Bool, true, false, List, ◌++◌, length, take}
-use Rattle.std.proofs.Common.{drop, Option, Result, Ok, Err, inl, inr, ⊎_elim, ◌⊎◌, sym, refl, ap, ◌∙◌, subst}
-use Rattle.std.proofs.Common.{true≢false, add-zero, arith, le_refl, length-append, length-drop, length-take-le}
+use Rattle.std.proofs.Common.{◌≡◌, ℕ, zero, suc, ◌+◌, ◌-◌, ◌<◌, ◌≤◌, List, ◌++◌, length, take}
+use Rattle.std.proofs.Common.{drop, Option, Some, None, Result, Ok, Err, sym, refl, ap, ◌∙◌, subst}
+use Rattle.std.proofs.Common.{add-zero, arith, le_refl, length-append, length-drop, length-take-le}
 use Rattle.std.proofs.Common.{take-add, drop_at}
 use lib.Seq.{take-append-le}
 use borrow.Rule.Slice.PartMut.{put_mid, post_of}
@@ -9,41 +9,23 @@ use Rattle.std.proofs.KnownBytes.{Consumes-trans}
 use Rattle.std.proofs.lemmas.Slice.{take-put_mid_below}
 use Rattle.std.specs.Io.{ReadsAtMost}
 use Rattle.std.specs.Io.KnownBytes.{Consumes, ReadConsumes}
-use Rattle.stream.specs.Stream.{Takes, Within, heard}
-use Rattle.stream.specs.declared.Heard.{Heard}
-use Rattle.stream.specs.declared.Input.{Input}
-
-moves : Heard → Bool
-moves (Heard.More _) = true
-moves (Heard.Over _) = false
-
-come : Heard → ℕ
-come (Heard.More n) = n
-come (Heard.Over _) = 0
-
-left : Heard → Input
-left (Heard.More _) = Input.Failed
-left (Heard.Over input) = input
-
-apart : {X : Type 0} {a b : Heard} → a ≡ b → moves a ≡ true → moves b ≡ false → X
-apart e p q = absurd (true≢false (sym p ∙ ap moves e ∙ q))
+use Rattle.stream.specs.Stream.{Reads, heard}
 
 -- What is heard to have come is what the read answered, and something.
-pub goes_on : {E : Type 0} (got : Result ℕ E) (size n : ℕ) → Heard.More n ≡ heard got size → (got ≡ Ok n) × (0 < n)
-unfolding heard moves come
-goes_on (Err _) _ _ e = apart e refl refl
-goes_on (Ok zero) _ _ e = apart e refl refl
-goes_on (Ok (suc k)) _ n e =
-    let same : n ≡ suc k = ap come e in
+pub goes_on : {E : Type 0} (got : Result ℕ E) (n : ℕ) → Ok (Some n) ≡ heard got → (got ≡ Ok n) × (0 < n)
+unfolding heard
+goes_on (Err _) _ e = cc
+goes_on (Ok zero) _ e = cc
+goes_on (Ok (suc k)) n e =
+    let same : n ≡ suc k = cc in
     (ap Ok (sym same), omega arith)
 
--- Where the input is said to be over, a read has failed, or none came and what had come stands.
-pub ends : {E : Type 0} (got : Result ℕ E) (size : ℕ) (input : Input) → Heard.Over input ≡ heard got size
-    → (input ≡ Input.Failed) ⊎ ((got ≡ Ok 0) × (input ≡ Input.Bytes size))
-unfolding heard moves left
-ends (Err _) _ _ e = inl (ap left e)
-ends (Ok zero) _ _ e = inr (refl, ap left e)
-ends (Ok (suc _)) _ _ e = apart (sym e) refl refl
+-- Where the input is said to be over, none came.
+pub ends : {E : Type 0} (got : Result ℕ E) → Ok None ≡ heard got → got ≡ Ok 0
+unfolding heard
+ends (Err _) e = cc
+ends (Ok zero) _ = refl
+ends (Ok (suc _)) e = cc
 
 pub within : {E : Type 0} {got : Result ℕ E} {n : ℕ} (new : List ℕ)
     → got ≡ Ok n → ReadsAtMost got new → n ≤ length new
@@ -84,20 +66,13 @@ module _ (size room : ℕ) (buf new : List ℕ) (in_buf : size ≤ length buf) (
         let said = subst (λ r. ReadConsumes b c r new) e taken in
         subst (Consumes a c) (sym (joined n fits)) (Consumes-trans a b c _ _ before said.0)
 
-    pub over : (input : Input) → size < length buf → Heard.Over input ≡ heard got size
-        → Within input (put_mid size room buf new) × Takes a c input (put_mid size room buf new)
-    over input more e = ⊎_elim failed ended (ends got size input e) where
-      now : List ℕ
-      now = put_mid size room buf new
-
-      failed : input ≡ Input.Failed → Within input now × Takes a c input now
-      failed same = subst (λ i. Within i now × Takes a c i now) (sym same) (tt, tt)
-
-      ended : (got ≡ Ok 0) × (input ≡ Input.Bytes size) → Within input now × Takes a c input now
-      ended (none, same) =
-          let stands : size ≤ length now = omega (arith, as_long, in_buf) in
-          let taken_all : Consumes a c (take size now) =
-          subst (λ n. Consumes a c (take n now)) (add-zero size) (onward 0 none (omega arith)) in
-          let nothing = (subst (λ r. ReadConsumes b c r new) none taken).1 refl (omega (arith, all, full, more)) in
-          subst (λ i. Within i now × Takes a c i now) (sym same)
-          ((stands, sym (length-take-le size now stands)), (taken_all, λ _. nothing))
+    -- Where none came, what had come stands, and none is left.
+    pub over : size < length buf → got ≡ Ok 0
+        → Reads {E = E} a c (Ok size) (put_mid size room buf new)
+    over more none =
+        let now = put_mid size room buf new in
+        let stands : size ≤ length now = omega (arith, as_long, in_buf) in
+        let taken_all : Consumes a c (take size now) =
+        subst (λ n. Consumes a c (take n now)) (add-zero size) (onward 0 none (omega arith)) in
+        let nothing = (subst (λ r. ReadConsumes b c r new) none taken).1 refl (omega (arith, all, full, more)) in
+        record { within = (stands, sym (length-take-le size now stands)); taken = (taken_all, λ _. nothing) }

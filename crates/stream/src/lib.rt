@@ -1,4 +1,5 @@
-// A program's input, read to its end: a read that fails is told apart from the end of the input.
+// A program's input, read to its end: a read that fails is told apart from the end of the input. And what the program
+// says where its input or its output fails.
 #![tactic(auto)]
 
 ghost use Rattle.std.specs.Prelude.{◌≡◌};
@@ -7,44 +8,42 @@ ghost use Rattle.stream.specs.Stream.{Reads, heard};
 use std::io;
 use std::io::Read;
 
-// How many bytes of the input stand at the start of the buffer, or that a read failed.
-#[derive(Clone, Copy)]
-pub enum Input {
-    Bytes(usize),
-    Failed,
-}
-
-// What follows from one read: so many bytes more, or the input is over.
-#[derive(Clone, Copy)]
-enum Heard {
-    More(usize),
-    Over(Input),
-}
-
-// What a read says by its answer, where so many bytes had come before.
+// What a read says by its answer: so many bytes more, or that the input is over.
 #[tactic(auto, unfolding(crate::specs::Stream::heard))]
-fn hear(got: io::Result<usize>, size: usize) -> Heard
-    ensures { result ≡ heard got size }
+fn hear(got: io::Result<usize>) -> io::Result<Option<usize>>
+    ensures { result ≡ heard got }
 {
     match got {
-        Ok(0) => Heard::Over(Input::Bytes(size)),
-        Ok(more) => Heard::More(more),
-        Err(_) => Heard::Over(Input::Failed),
+        Ok(0) => Ok(None),
+        Ok(more) => Ok(Some(more)),
+        Err(error) => Err(error),
     }
 }
 
-// Reads until the buffer is full or the input is over.
-pub fn read_whole<R: Read>(reader: &mut R, buf: &mut [u8]) -> Input
+// Reads until the buffer is full or the input is over; gives how many bytes of the input stand at the buffer's start.
+// No `for` says it more plainly: how far a turn goes is known from the read alone.
+pub fn read_whole<R: Read>(reader: &mut R, buf: &mut [u8]) -> io::Result<usize>
     ensures { Reads (R.remaining reader.old) (R.remaining reader.new) result buf.new }
 {
     let mut size: usize = 0;
     while size < buf.len() {
-        let got = reader.read(&mut buf[size..]);
-        let heard = hear(got, size);
-        match heard {
-            Heard::Over(input) => return input,
-            Heard::More(more) => size += more,
+        match hear(reader.read(&mut buf[size..]))? {
+            Some(more) => size += more,
+            None => break,
         }
     }
-    Input::Bytes(size)
+    Ok(size)
+}
+
+pub fn say_unread(err: &impl Eprint, program: &str) {
+    let _ = eprintln!(err; "{program}: standard input could not be read");
+}
+
+// Whether what a program wrote was written; a pipe that nobody reads any further is no failure to speak of.
+pub fn say_written(err: &impl Eprint, program: &str, written: io::Result<()>) {
+    if let Err(error) = written {
+        if error.kind() != io::ErrorKind::BrokenPipe {
+            let _ = eprintln!(err; "{program}: standard output could not be written");
+        }
+    }
 }

@@ -1,9 +1,9 @@
 -- What an item reads and writes (01, Script text and The checker), and the tests on it that the checker and the machine
 -- share: 19 with 61, 20 with 60, 23 with 64.
+use Rattle.std.specs.Prelude.{Option, Some, None}
 use Rattle.std.specs.Prelude.{ℕ, Bool, true, false, not, ◌||◌, cond, List, [], ◌∷◌, get_or}
 use Rattle.table.specs.Item.{Value, Operand, Condition, Act, Pack, Head, Item}
 pub use Rattle.table.specs.declared.Kind.{Kind}
-pub use Rattle.table.specs.declared.Known.{Known}
 pub use Rattle.table.specs.declared.Read.{Read}
 pub use Rattle.table.specs.declared.Write.{Write}
 use Rattle.table.specs.declared.Branch.TheVariants as Branch
@@ -93,35 +93,35 @@ alike_kind Kind.Real Kind.Whole = false
 alike_kind Kind.Real Kind.Real = true
 
 -- two kinds that are known, and differ
-abbrev pub differ : Known → Known → Bool
-differ Known.Unknown k = false
-differ (Known.Of j) Known.Unknown = false
-differ (Known.Of j) (Known.Of k) = not (alike_kind j k)
+abbrev pub differ : Option Kind → Option Kind → Bool
+differ None k = false
+differ (Some j) None = false
+differ (Some j) (Some k) = not (alike_kind j k)
 
 -- the kinds of the 32 names
 abbrev pub Kinds : Type 0
-Kinds = List Known
+Kinds = List (Option Kind)
 
-abbrev pub kind_at : Kinds → ℕ → Known
-kind_at k n = get_or k n Known.Unknown
+abbrev pub kind_at : Kinds → ℕ → Option Kind
+kind_at k n = get_or k n None
 
-module _ (kind : ℕ → Known) where
-  abbrev pub kind_in : Operand → Known
+module _ (kind : ℕ → Option Kind) where
+  abbrev pub kind_in : Operand → Option Kind
   kind_in (Operand.Name n) = kind n
-  kind_in (Operand.Literal l) = Known.Of (kind_of l)
+  kind_in (Operand.Literal l) = Some (kind_of l)
 
   -- two operands of different kinds, or not the kind asked for
   abbrev pub wrong : List Read → Bool
   wrong [] = false
   wrong (Read.Any x ∷ ws) = wrong ws
   wrong (Read.Alike x y ∷ ws) = wrong ws || differ (kind_in x) (kind_in y)
-  wrong (Read.Float x ∷ ws) = wrong ws || differ (kind_in x) (Known.Of Kind.Real)
+  wrong (Read.Float x ∷ ws) = wrong ws || differ (kind_in x) (Some Kind.Real)
 
   -- a name written with the other kind
   abbrev pub wrong_write : List Write → Bool
   wrong_write [] = false
   wrong_write (Write.Like n x ∷ gs) = wrong_write gs || differ (kind n) (kind_in x)
-  wrong_write (Write.Float n ∷ gs) = wrong_write gs || differ (kind n) (Known.Of Kind.Real)
+  wrong_write (Write.Float n ∷ gs) = wrong_write gs || differ (kind n) (Some Kind.Real)
 
 -- ---- sets of names, one flag for each of the 32
 

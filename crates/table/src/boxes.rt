@@ -9,22 +9,14 @@ use super::{Item, Pack, Sort};
 pub fn is_loop(sort: Sort) -> bool
     ensures { result ≡ is_loop sort }
 {
-    match sort {
-        Sort::If => false,
-        Sort::Loop => true,
-        Sort::Sweep => true,
-    }
+    matches!(sort, Sort::Loop | Sort::Sweep)
 }
 
 // A measuring loop.
 pub fn is_sweep(sort: Sort) -> bool
     ensures { result ≡ is_sweep sort }
 {
-    match sort {
-        Sort::If => false,
-        Sort::Loop => false,
-        Sort::Sweep => true,
-    }
+    matches!(sort, Sort::Sweep)
 }
 
 // The package order, of which 23 and 64 speak.
@@ -33,15 +25,7 @@ pub fn breaks_order(item: Item, packed: bool) -> bool
 {
     match item {
         Item::Act(_) => false,
-        Item::Pack(p) => match p {
-            Pack::Start => packed,
-            Pack::Add(_) => !packed,
-            Pack::End => !packed,
-        },
-        Item::Open(_) => packed,
-        Item::Branch(_) => packed,
-        Item::Close(_) => packed,
-        Item::Break => packed,
-        Item::Tag => packed,
+        Item::Pack(Pack::Add(_) | Pack::End) => !packed,
+        _ => packed,
     }
 }

@@ -2,9 +2,9 @@
 -- nothing.
 use borrow.Author.Tests.{le-leb, le-ltb, leb-true, lt-ltb, ltb-false, ltb-true}
 use lib.Dec.{leb, ltb}
-use lib.ListN.{drop, drop_of_length-le, get_or, length, length-append, length-drop, length-replicate}
+use lib.ListN.{drop, drop_of_length-le, get_or, length, length-append, length-drop}
 use lib.ListN.{length-set, replicate, set, take, take-append-drop}
-use lib.Seq.{drop-append_seam, drop-cons, drop-set-lt, get_or-set_same, take_all, take-set-le, take-take}
+use lib.Seq.{drop-append_seam, drop-cons, drop-set-lt, get_or-set_same, take-set-le, take-take}
 use mathlib.Core.Bool.{Bool, ◌&&◌, false, true}
 use mathlib.Core.List.{List, [], ◌∷◌, ◌++◌, append_assoc, append-nil}
 use mathlib.Core.Path.{◌≡◌, ◌∙◌, ap, ap₂, refl, sym}
@@ -12,10 +12,10 @@ use native.Mathlib.Decide.{dec_lt}
 use native.Mathlib.Nat.{add-zero, div-add-mod', le_of_suc-le-suc, mod-eq_of_lt, mod-lt, pow-suc, zero-add}
 use native.Mathlib.Numerals.{add-one}
 use native.Mathlib.Omega.{arith}
-use Prim.Native.Nat.{ℕ, zero, suc, min, ◌+◌, ◌-◌, ◌*◌, ◌/◌, ◌%◌, ◌^◌, ◌≤◌, ◌<◌}
+use Prim.Native.Nat.{ℕ, zero, suc, max, min, ◌+◌, ◌-◌, ◌*◌, ◌/◌, ◌%◌, ◌^◌, ◌≤◌, ◌<◌}
 use Rattle.text.proofs.Digits.{grows}
 use Rattle.text.specs.Bytes.{digit}
-use Rattle.text.specs.Decimal.{decimal, decimal_of, digit_run, digits, number, number_at, number_from}
+use Rattle.text.specs.Decimal.{decimal, decimal_of, digit_run, digits, digits_in, number, number_at, number_from}
 use Rattle.text.specs.declared.Decimal.{Decimal}
 use Rattle.text.specs.declared.Number.{Number}
 
@@ -166,28 +166,15 @@ module _ {bytes : List ℕ} {from rest n : ℕ} (w : Laid bytes from rest n) whe
         (ap {B = Decimal} (λ (l : List ℕ). record { bytes = l; from = from - 1 })
         (sym (take-append-drop (from - 1) (now v)) ∙ ap₂ ◌++◌ (put_clear v) all))
 
--- d holds the digits of n as its last bytes
-pub record Holds (d : Decimal) (n : ℕ) : Type 0 where
-  pub wide : length d.bytes ≡ 20
-  pub within : d.from ≤ 20
-  pub part : take (20 - d.from) (drop d.from d.bytes) ≡ decimal n
+-- ---- and lent
 
 behind : (k : ℕ) (l : List ℕ) → drop k (replicate k 0 ++ l) ≡ l
 behind zero l = refl
 behind (suc k) l = behind k l
 
-pub holds : (n : ℕ) → n < 2 ^ 64 → {d : Decimal} → d ≡ decimal_of n → Holds d n
+pub digits_are : (n : ℕ) → n < 2 ^ 64 → {d : Decimal} → d ≡ decimal_of n → digits_in d ≡ decimal n
 unfolding decimal_of
-holds n h e =
-    let k = 20 - length (decimal n) in
-    let few = few_digits n h in
-    let zeros : List ℕ = replicate k 0 in
-    rw e
-    (record {
-      wide = length-append zeros (decimal n) ∙ omega (arith, few, length-replicate {A = ℕ} k 0);
-      within = omega arith;
-      part = rw (behind k (decimal n)) (take_all (20 - k) (decimal n) (omega (arith, few)));
-    })
+digits_are n h e = rw e (behind (20 - length (decimal n)) (decimal n))
 
 -- ---- digits in front
 
@@ -288,6 +275,15 @@ module _ {s : List ℕ} {at v i : ℕ} (r : Reading s at v i) where
   pub read_end : length s ≤ i → ◌≡◌ {A = Number} (record { number = v; next = i }) (number_at s at)
   read_end h = stopped (rw (drop_of_length-le s h)) (rw (drop_of_length-le s h))
 
+  -- where the loop ends, at the greater of the two
+  pub read_all : at ≤ i → length s ≤ i
+      → ◌≡◌ {A = Number} (record { number = v; next = max at (length s) }) (number_at s at)
+  unfolding number_at
+  read_all g h =
+      let e : i + digit_run (drop i s) ≡ at + digit_run (drop at s) = ap (λ (n : Number). n.next) r.same in
+      let m : max at (length s) ≡ i = omega (arith, e, run_le (drop at s), length-drop at s) in
+      rw m (read_end h)
+
   module _ (more : i < length s) where
     abbrev c : ℕ
     c = get_or s i 0
@@ -315,6 +311,9 @@ module _ {s : List ℕ} {at v i : ℕ} (r : Reading s at v i) where
               f,
               p,
             )
+
+-- what the loop's goals want
+pub ruleset reading = (begun, digit_fits, read_more, read_stop, read_all)
 
 -- ---- read back
 

@@ -1,24 +1,27 @@
 -- Digits read as eight bytes at once: all are judged by one sum, and what they are worth makes the number.
 -- Assumes nothing.
+use Rattle.std.proofs.Common.{Fits, Some, None, w8, w64}
+use Rattle.std.specs.Int.{from_le_bytes, to_le_bytes}
+use Rattle.std.proofs.lemmas.Nat.{le_bytes_8}
 use borrow.Author.Tests.{eqb-true}
 use lib.Arith.{digits_div, digits_mod}
 use lib.Dec.{eqb}
-use lib.ListN.{drop, get_or, length, take}
-use lib.Seq.{drop-cons}
+use lib.ListN.{drop, get_or, length, length-drop, length-take, replicate, take}
 use mathlib.Core.Bool.{Bool, ◌&&◌, and_comm, and-eq-true_iff, cond, false, true}
-use mathlib.Core.List.{List, [], ◌∷◌, ◌++◌}
+use mathlib.Core.List.{List, ◌∷◌, ◌++◌, append-nil}
 use mathlib.Core.Path.{◌≡◌, ◌∙◌, ap, refl, sym}
-use native.Mathlib.Nat.{add-mul, add-zero, div-div-eq-div-mul, mul_assoc, mul_comm, pow-suc, suc-add, zero-add}
+use native.Mathlib.Nat.{add-mul, div-div-eq-div-mul, mul_assoc, mul_comm, pow-suc, zero-add}
 use native.Mathlib.Omega.{arith}
-use Prim.Native.Nat.{ℕ, zero, suc, ◌+◌, ◌*◌, ◌/◌, ◌%◌, ◌^◌, ◌≤◌, ◌<◌}
+use Prim.Native.Nat.{ℕ, zero, suc, ◌+◌, ◌-◌, ◌*◌, ◌/◌, ◌%◌, ◌^◌, ◌≤◌, ◌<◌}
 use Rattle.text.proofs.Abreast.{Made, added, alike, fits, pairs, repeated}
 use Rattle.text.proofs.Digits.{below_from, reads_part}
 use Rattle.text.proofs.Every.{at_each, every}
+use Rattle.text.proofs.Put.{fitting}
 use Rattle.text.proofs.Ranges.{mark_byte}
 use Rattle.text.specs.Bytes.{byte, digit}
 use Rattle.text.specs.Code.{apart, capital, in_each, is_hex, mark, of_each, weighed, worth}
-use Rattle.text.specs.declared.Hex.{Hex}
 use Rattle.text.specs.Hex.{digit_value, hex_from, read_hex}
+use Rattle.text.specs.Put.{put, put_in}
 
 -- ---- a byte
 
@@ -97,17 +100,17 @@ in_front_lem k v d w =
     omega (arith, more, both)
 
 turn : (k v c w : ℕ) (cs : List ℕ) (b q : Bool) → c < 256 → is_hex c ≡ b
-    → hex_from (v * 16 + digit_value c) cs ≡ cond q (Hex.Number ((v * 16 + digit_value c) * 16 ^ k + w)) Hex.Bad
-    → hex_from v (c ∷ cs) ≡ cond (b && q) (Hex.Number (v * 16 ^ suc k + (worth c * 16 ^ k + w))) Hex.Bad
+    → hex_from (v * 16 + digit_value c) cs ≡ cond q (Some ((v * 16 + digit_value c) * 16 ^ k + w)) None
+    → hex_from v (c ∷ cs) ≡ cond (b && q) (Some (v * 16 ^ suc k + (worth c * 16 ^ k + w))) None
 unfolding hex_from is_hex
 turn k v c w cs true q h e rest = rw (e, worth_is c h e, in_front_lem k v (digit_value c) w) rest
 turn k v c w cs false q h e rest = rw e refl
 
 numbered : (k v n : ℕ)
     → hex_from v (apart k n)
-    ≡ cond (of_each is_hex k n) (Hex.Number (v * 16 ^ k + weighed k (in_each worth k n))) Hex.Bad
+    ≡ cond (of_each is_hex k n) (Some (v * 16 ^ k + weighed k (in_each worth k n))) None
 unfolding apart hex_from in_each of_each weighed
-numbered zero v n = ap (λ (x : ℕ). Hex.Number x) (omega arith)
+numbered zero v n = ap (λ (x : ℕ). Some x) (omega arith)
 numbered (suc k) v n =
     let c : ℕ = n % 256 in
     let rest : ℕ = in_each worth k (n / 256) in
@@ -132,7 +135,7 @@ pub weighed_below : (v : ℕ) → weighed 4 v < 2 ^ 21
 unfolding weighed
 weighed_below v = omega arith
 
-pub refuses : (w : ℕ) → of_each is_hex 8 w ≡ false → Hex.Bad ≡ hex_from 0 (apart 8 w)
+pub refuses : (w : ℕ) → of_each is_hex 8 w ≡ false → None ≡ hex_from 0 (apart 8 w)
 refuses w h = sym (numbered 8 0 w ∙ rw h refl)
 
 -- all are digits, worth v, of which x is the number of the first four, y that of the last
@@ -143,91 +146,53 @@ pub record Weighed (w v x y : ℕ) : Type 0 where
   pub last : y ≡ weighed 4 (v / 2 ^ 32)
 
 module _ {w v x y : ℕ} (d : Weighed w v x y) where
-  pub reads : Hex.Number (x * 65536 + y) ≡ hex_from 0 (apart 8 w)
+  pub reads : Some (x * 65536 + y) ≡ hex_from 0 (apart 8 w)
   reads =
       let number : x * 65536 + y ≡ weighed 8 (in_each worth 8 w) =
       rw (d.first, d.last) (weigh_eight v ∙ ap (weighed 8) d.worth) in
-      ap (λ (n : ℕ). Hex.Number n) number ∙ sym (numbered 8 0 w ∙ rw d.digits (rw (zero-add _) refl))
+      ap (λ (n : ℕ). Some n) number ∙ sym (numbered 8 0 w ∙ rw d.digits (rw (zero-add _) refl))
 
   pub short : x * 65536 + y < 2 ^ 32
   unfolding apart
   short = below_from (apart 8 w) 0 0 _ (omega arith) (sym reads)
 
--- ---- bytes side by side
+-- ---- as the library reads them
 
-pub four_apart : (a b c d : ℕ) → a < 256 → b < 256 → c < 256 → d < 256
-    → apart 4 (a + b * 256 + c * 65536 + d * 16777216) ≡ a ∷ b ∷ c ∷ d ∷ []
+bytes_of : (n : ℕ) → apart 8 n ≡ to_le_bytes w64 n
 unfolding apart
-four_apart a b c d h i j k =
-    let once : (a + b * 256 + c * 65536 + d * 16777216) / 256 ≡ b + c * 256 + d * 65536 = omega arith in
-    let twice : (b + c * 256 + d * 65536) / 256 ≡ c + d * 256 = omega arith in
-    let thrice : (c + d * 256) / 256 ≡ d = omega arith in
-    let first : (a + b * 256 + c * 65536 + d * 16777216) % 256 ≡ a = omega arith in
-    let second : (b + c * 256 + d * 65536) % 256 ≡ b = omega arith in
-    let third : (c + d * 256) % 256 ≡ c = omega arith in
-    let fourth : d % 256 ≡ d = omega arith in
-    rw (once, twice, thrice, first, second, third, fourth) refl
+bytes_of n =
+    rw (
+      div-div-eq-div-mul n 256 256,
+      div-div-eq-div-mul n 65536 256,
+      div-div-eq-div-mul n 16777216 256,
+      div-div-eq-div-mul n (2 ^ 32) 256,
+      div-div-eq-div-mul n (2 ^ 40) 256,
+      div-div-eq-div-mul n (2 ^ 48) 256,
+    ) refl
 
-apart_behind : (j k n m : ℕ) → n < 256 ^ j → apart (j + k) (n + m * 256 ^ j) ≡ apart j n ++ apart k m
-unfolding apart
-apart_behind zero k n m h =
-    let none : n + m * 1 ≡ m = omega arith in
-    rw (zero-add k, none) refl
-apart_behind (suc j) k n m h =
-    let up : m * 256 ^ suc j ≡ m * 256 ^ j * 256 = rw (pow-suc 256 j) (sym (mul_assoc m (256 ^ j) 256)) in
-    let low : n / 256 < 256 ^ j = omega (arith, pow-suc 256 j) in
-    let rest : (n + m * 256 ^ suc j) / 256 ≡ n / 256 + m * 256 ^ j = omega (arith, up) in
-    let last : (n + m * 256 ^ suc j) % 256 ≡ n % 256 = omega (arith, up) in
-    rw (suc-add j k, rest, last) (ap (λ (cs : List ℕ). n % 256 ∷ cs) (apart_behind j k (n / 256) m low))
+pub apart_as : (bs : List ℕ) (n : ℕ) → length bs ≡ 8 → ((i : ℕ) → Fits w8 (get_or bs i 0)) → n ≡ from_le_bytes w64 bs
+    → apart 8 n ≡ bs
+apart_as bs n long small e = bytes_of n ∙ le_bytes_8 bs n long (λ i. (small i).fits) e
 
-pub eight_apart : (n m : ℕ) → n < 2 ^ 32 → apart 8 (n + m * 2 ^ 32) ≡ apart 4 n ++ apart 4 m
-eight_apart n m h = apart_behind 4 4 n m h
-
--- ---- the digits at a place
-
--- k bytes from i bytes behind a place on
-places : List ℕ → ℕ → ℕ → ℕ → List ℕ
-places s at i zero = []
-places s at i (suc k) = get_or s (at + i) 0 ∷ places s at (suc i) k
-
-placed : (s : List ℕ) (at i k : ℕ) → at + i + k ≤ length s → take k (drop (at + i) s) ≡ places s at i k
-unfolding places
-placed s at i zero h = refl
-placed s at i (suc k) h =
-    let next : suc (at + i) ≡ at + suc i = omega arith in
-    rw (drop-cons s (at + i) 0 (omega arith), next)
-    (ap (λ (cs : List ℕ). get_or s (at + i) 0 ∷ cs) (placed s at (suc i) k (omega arith)))
-
-read_placed : (s : List ℕ) (at k : ℕ) → k ≤ 7 → at + k ≤ length s → read_hex k s at ≡ hex_from 0 (places s at 0 k)
-read_placed s at k h l =
-    reads_part s at k h l
-    ∙ ap (hex_from 0) (ap (λ (n : ℕ). take k (drop n s)) (sym (add-zero at)) ∙ placed s at 0 k (rw (add-zero at) l))
+-- ---- the digits at a place, behind zeros
 
 zero_front : (cs : List ℕ) → hex_from 0 (byte "0" ∷ cs) ≡ hex_from 0 cs
 unfolding digit_value hex_from
 zero_front cs = refl
 
--- r is the number of the bytes in n, and of those in m behind them
-pub record ReadBoth (r : Hex) (n m w : ℕ) : Type 0 where
-  pub number : r ≡ hex_from 0 (apart 8 w)
-  pub both : apart 8 w ≡ apart 4 n ++ apart 4 m
+zeros_front : (k m : ℕ) (cs : List ℕ) → hex_from 0 (take k (replicate m (byte "0")) ++ cs) ≡ hex_from 0 cs
+zeros_front zero m cs = refl
+zeros_front (suc k) zero cs = refl
+zeros_front (suc k) (suc m) cs = zero_front _ ∙ zeros_front k m cs
 
-module _ (s : List ℕ) (at : ℕ) where
-  abbrev c : ℕ → ℕ
-  c i = get_or s (at + i) 0
-
-  pub four_read : {r : Hex} {m w : ℕ} → at + 4 ≤ length s → ReadBoth r 0x30303030 m w
-      → apart 4 m ≡ get_or s at 0 ∷ c 1 ∷ c 2 ∷ c 3 ∷ [] → r ≡ read_hex 4 s at
-  unfolding apart places
-  four_read h b e =
-      b.number ∙ ap (hex_from 0) (b.both ∙ rw e refl)
-      ∙ zero_front _ ∙ zero_front _ ∙ zero_front _ ∙ zero_front _
-      ∙ sym (rw (add-zero at) at (read_placed s at 4 (omega arith) h))
-
-  pub seven_read : {r : Hex} {n m w : ℕ} → at + 7 ≤ length s → ReadBoth r n m w
-      → apart 4 n ≡ byte "0" ∷ get_or s at 0 ∷ c 1 ∷ c 2 ∷ [] → apart 4 m ≡ c 3 ∷ c 4 ∷ c 5 ∷ c 6 ∷ []
-      → r ≡ read_hex 7 s at
-  unfolding places
-  seven_read h b e f =
-      b.number ∙ ap (hex_from 0) (b.both ∙ rw (e, f) refl) ∙ zero_front _
-      ∙ sym (rw (add-zero at) at (read_placed s at 7 (omega arith) h))
+pub read_behind : (s : List ℕ) (at n : ℕ) → n ≤ 7 → at + n ≤ length s
+    → hex_from 0 (put_in (replicate 8 (byte "0")) (8 - n) (take (at + n - at) (drop at s))) ≡ read_hex n s at
+unfolding put
+read_behind s at n h k =
+    let few : at + n - at ≡ n = omega arith in
+    let vs : List ℕ = take n (drop at s) in
+    let long : length vs ≡ n = omega (arith, length-take n (drop at s), length-drop at s) in
+    let end : 8 - n + length vs ≡ 8 = omega (arith, long) in
+    let laid : put_in (replicate 8 (byte "0")) (8 - n) vs ≡ take (8 - n) (replicate 8 (byte "0")) ++ vs =
+    fitting (replicate 8 (byte "0")) vs (8 - n) (omega (arith, long)) ∙ rw end (append-nil _) in
+    rw (few, laid) (zeros_front (8 - n) 8 vs ∙ sym (reads_part s at n h k))

@@ -1,4 +1,5 @@
 -- What only the code's shape needs: bytes side by side in a number, the first the lowest. Assumes nothing.
+use Rattle.std.specs.Prelude.{Option, Some, None}
 use Rattle.std.specs.Prelude.{leb, ltb, Bool, ◌&&◌, cond, true, List, [], ◌∷◌, ℕ, zero, suc, ◌+◌, ◌*◌, ◌/◌, ◌%◌, ◌^◌}
 use Rattle.text.specs.Bytes.{byte}
 use Rattle.text.specs.Hex.{digit_value}
@@ -29,6 +30,10 @@ mark b = cond b 128 0
 
 unfoldable pub is_hex : ℕ → Bool
 is_hex c = ltb (digit_value c) 16
+
+-- the value of a digit
+unfoldable pub value_in : ℕ → Option ℕ
+value_in c = cond (is_hex c) (Some (digit_value c)) None
 
 unfoldable pub capital : ℕ → Bool
 capital c = leb (byte "A") c && leb c (byte "F")

@@ -24,6 +24,10 @@ decimal_of n =
       from = 20 - length (decimal n);
     }
 
+-- those digits
+abbrev pub digits_in : Decimal → List ℕ
+digits_in d = drop d.from d.bytes
+
 -- ---- in
 
 -- how many digits stand in front

@@ -1,4 +1,3 @@
 pub mod Thing
 pub mod Answer
-pub mod Code
 pub mod Read

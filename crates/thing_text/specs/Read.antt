@@ -1,4 +1,5 @@
 -- The text tells the thing: a reader of the texts, which gives each thing back (proofs/ReadBack.antt). Assumes nothing.
+use Rattle.std.specs.Prelude.{Option, Some, None}
 use Rattle.std.specs.Prelude.{eqb, T, ℤ, pos, negsuc, true, false, cond, ◌≡◌, ℕ, zero, suc, ◌+◌, ◌*◌, ◌<◌}
 use Rattle.std.specs.Prelude.{List, [], ◌∷◌, take, drop}
 use Rattle.std.specs.Float.{binary64}
@@ -9,7 +10,6 @@ use Rattle.state.specs.State.{pack_end, pack_part, says, waits, sets_e, sets_mod
 use Rattle.state.specs.State.{switches_cell}
 use Rattle.text.specs.Bytes.{ascii}
 use Rattle.text.specs.Decimal.{digit_run, number}
-use Rattle.text.specs.declared.Hex.{Hex}
 use Rattle.text.specs.Hex.{hex_from}
 use Rattle.thing_text.specs.Thing.{text_of}
 use Rattle.value.specs.declared.Value.{Value}
@@ -32,9 +32,9 @@ by_sign v (c ∷ s) = minus (number s)
 abbrev pub read_whole : List ℕ → ℤ
 read_whole s = by_sign (number s) (behind_number s)
 
-abbrev pub hex_value : Hex → ℕ
-hex_value (Hex.Number v) = v
-hex_value Hex.Bad = 0
+abbrev pub hex_value : Option ℕ → ℕ
+hex_value (Some v) = v
+hex_value None = 0
 
 abbrev pub read_hex4 : List ℕ → ℕ
 read_hex4 s = hex_value (hex_from 0 (take 4 s))

@@ -1,13 +1,12 @@
 // Values: whole numbers and floats, literals, arithmetic and comparison.
 #![tactic(auto)]
 
-ghost use Rattle.std.specs.Prelude.{◌≡◌, ◌+◌, ◌%◌, ◌^◌, ◌<◌, ◌≤◌, length, drop, pos, ◌+ℤ◌, ◌-ℤ◌, ◌*ℤ◌, neg_ℤ};
-ghost use Rattle.std.specs.Prelude.{if◌then◌else◌, int_div, int_rem, nat_lt, to_bits, unsigned_abs};
+ghost use Rattle.std.specs.Prelude.{◌≡◌, ◌+◌, ◌^◌, ◌<◌, ◌≤◌, length, drop, pos, ◌*ℤ◌, neg_ℤ};
+ghost use Rattle.std.specs.Prelude.{if◌then◌else◌, nat_lt, to_bits};
 ghost use Rattle.std.specs.Float.{binary64};
 ghost use Rattle.std.specs.Int.Signed.{mag};
-ghost use Rattle.value.specs.Arithmetic.{rest, signed_word, wrap, wholes, is_zero, reals, checked, is_finite};
+ghost use Rattle.value.specs.Arithmetic.{rest, wrap, wholes, is_zero, reals, checked, is_finite};
 ghost use Rattle.value.specs.Arithmetic.{finite, calculated, compare_wholes, compare_reals, compares};
-ghost use Rattle.value.specs.Code.{folded};
 ghost use Rattle.prefix.specs.Prefix.{prefix_of};
 ghost use Rattle.value.specs.Literal.{lettered, suffixed, signed, finish, read_digits, literal};
 
@@ -38,19 +37,11 @@ pub enum Comparison {
     AtLeast,
 }
 
-// What an operation gives.
+// Why an operation gives nothing: a division by zero, or a result that is not finite.
 #[derive(Clone, Copy)]
-pub enum Calculated {
-    Value(Value),
+pub enum Stop {
     ByZero,
     NotFinite,
-}
-
-// What a word says as a literal, and the place in it where reading stopped.
-#[derive(Clone, Copy)]
-pub enum Literal {
-    Value(Value, usize),
-    Bad(usize),
 }
 
 // ---- literals
@@ -71,42 +62,43 @@ const TEN_15: f64 = 1000000000000000.0;
 
 const TEN_18: f64 = 1000000000000000000.0;
 
-fn by_letter(z: i32, at: usize, c: u8) -> Literal
+// Each letter has an arm of its own, as it has a row in 01: by the exponent alone each would be matched twice.
+fn by_letter(z: i32, at: usize, c: u8) -> Result<(Value, usize), usize>
     requires { at < 2 ^ 63 }
     ensures { result ≡ lettered z at (prefix_of c) }
 {
     let after = at + 1;
     match c {
-        b'i' => Literal::Value(Value::Whole(z), after),
-        b'a' => Literal::Value(Value::Real(z as f64 / TEN_18), after),
-        b'f' => Literal::Value(Value::Real(z as f64 / TEN_15), after),
-        b'p' => Literal::Value(Value::Real(z as f64 / TEN_12), after),
-        b'n' => Literal::Value(Value::Real(z as f64 / TEN_9), after),
-        b'u' => Literal::Value(Value::Real(z as f64 / TEN_6), after),
-        b'm' => Literal::Value(Value::Real(z as f64 / TEN_3), after),
-        b'k' => Literal::Value(Value::Real(z as f64 * TEN_3), after),
-        b'M' => Literal::Value(Value::Real(z as f64 * TEN_6), after),
-        b'G' => Literal::Value(Value::Real(z as f64 * TEN_9), after),
-        b'T' => Literal::Value(Value::Real(z as f64 * TEN_12), after),
-        b'P' => Literal::Value(Value::Real(z as f64 * TEN_15), after),
-        b'E' => Literal::Value(Value::Real(z as f64 * TEN_18), after),
-        _ => Literal::Bad(at),
+        b'i' => Ok((Value::Whole(z), after)),
+        b'a' => Ok((Value::Real(z as f64 / TEN_18), after)),
+        b'f' => Ok((Value::Real(z as f64 / TEN_15), after)),
+        b'p' => Ok((Value::Real(z as f64 / TEN_12), after)),
+        b'n' => Ok((Value::Real(z as f64 / TEN_9), after)),
+        b'u' => Ok((Value::Real(z as f64 / TEN_6), after)),
+        b'm' => Ok((Value::Real(z as f64 / TEN_3), after)),
+        b'k' => Ok((Value::Real(z as f64 * TEN_3), after)),
+        b'M' => Ok((Value::Real(z as f64 * TEN_6), after)),
+        b'G' => Ok((Value::Real(z as f64 * TEN_9), after)),
+        b'T' => Ok((Value::Real(z as f64 * TEN_12), after)),
+        b'P' => Ok((Value::Real(z as f64 * TEN_15), after)),
+        b'E' => Ok((Value::Real(z as f64 * TEN_18), after)),
+        _ => Err(at),
     }
 }
 
 // What follows the digits, from `i` on.
-fn with_suffix(s: &[u8], i: usize, z: i32) -> Literal
+fn with_suffix(s: &[u8], i: usize, z: i32) -> Result<(Value, usize), usize>
     requires { i ≤ length s.now }
     ensures { result ≡ suffixed z i (drop i s.now) }
 {
     let n = s.len();
     if n <= i {
-        return Literal::Value(Value::Real(z as f64), i);
+        return Ok((Value::Real(z as f64), i));
     }
     if n - i == 1 {
         by_letter(z, i, s[i])
     } else {
-        Literal::Bad(i)
+        Err(i)
     }
 }
 
@@ -121,7 +113,7 @@ fn negated(v: u64) -> i32
     -1 - w
 }
 
-// Whether the number with its sign has 32 bits.
+// Whether the number with its sign has 32 bits. To ask `i32::try_from`, it would first go through 128.
 fn in_range(v: u64, neg: bool) -> bool
     ensures { result ≡ nat_lt (mag (signed neg v)) (2 ^ 31) }
 {
@@ -138,22 +130,22 @@ fn with_sign(v: u64, neg: bool) -> i32
 
 // After k digits that make v.
 #[tactic(auto, unfolding(crate::specs::Literal::finish))]
-fn finished(s: &[u8], i: usize, k: usize, v: u64, neg: bool) -> Literal
+fn finished(s: &[u8], i: usize, k: usize, v: u64, neg: bool) -> Result<(Value, usize), usize>
     requires { i ≤ length s.now }
     ensures { result ≡ finish neg k v i (drop i s.now) }
 {
     if k == 0 {
-        return Literal::Bad(i);
+        return Err(i);
     }
     if !in_range(v, neg) {
-        return Literal::Bad(i);
+        return Err(i);
     }
     let z = with_sign(v, neg);
     with_suffix(s, i, z)
 }
 
 // The digits from `at` on, and what follows them.
-fn digits(s: &[u8], at: usize, neg: bool) -> Literal
+fn digits(s: &[u8], at: usize, neg: bool) -> Result<(Value, usize), usize>
     requires { at ≤ length s.now }
     ensures { result ≡ read_digits neg at (drop at s.now) }
 {
@@ -161,7 +153,7 @@ fn digits(s: &[u8], at: usize, neg: bool) -> Literal
     let next = read.next;
     let k = next - at;
     if MOST_DIGITS < k {
-        return Literal::Bad(at + MOST_DIGITS);
+        return Err(at + MOST_DIGITS);
     }
     finished(s, next, k, read.number, neg)
 }
@@ -173,12 +165,12 @@ fn past_sign(neg: bool) -> usize
     if neg { 1 } else { 0 }
 }
 
-// The whole word as a literal.
-pub fn read_literal(word: &[u8]) -> Literal
+// The value of a whole word as a literal, and the place in it where reading stopped; or that place alone.
+pub fn read_literal(word: &[u8]) -> Result<(Value, usize), usize>
     ensures { result ≡ literal word.now }
 {
     if word.len() == 0 {
-        return Literal::Bad(0);
+        return Err(0);
     }
     let neg = word[0] == b'-';
     digits(word, past_sign(neg), neg)
@@ -186,115 +178,46 @@ pub fn read_literal(word: &[u8]) -> Literal
 
 // ---- whole numbers
 
-const TURN: i64 = 4294967296;
-
-const LOWEST: i64 = -2147483648;
-
-const ABOVE_ALL: i64 = 2147483648;
-
-fn wide(x: i32) -> i64
-    ensures { result ≡ x }
-{
-    x as i64
-}
-
-// What a division by 2^32 leaves, with the sign of x.
-fn rest_of(x: i64) -> i64
-    ensures { result ≡ int_rem x (pos 4294967296) }
-{
-    x % TURN
-}
-
-// A number between -2^32 and 2^32, brought into the range by one turn at most.
-fn fold(r: i64) -> i32
-    requires { mag r < 2 ^ 32 }
-    ensures { result ≡ folded r }
-{
-    if r < 0 {
-        if r < LOWEST {
-            (r + TURN) as i32
-        } else {
-            r as i32
-        }
-    } else if r < ABOVE_ALL {
-        r as i32
-    } else {
-        (r - TURN) as i32
-    }
-}
-
-fn narrowed(x: i64) -> i32
-    ensures { result ≡ wrap x }
-{
-    fold(rest_of(x))
-}
-
 // The two's-complement word of a number.
+#[tactic(auto, using(crate::proofs::Wrap::word_is))]
 pub fn word_of(x: i32) -> u32
     ensures { result ≡ rest x (2 ^ 32) }
 {
-    if x < 0 {
-        let w = wide(x);
-        return (w + TURN) as u32;
-    }
-    x as u32
+    x.cast_unsigned()
 }
 
-// The number of a two's-complement word.
-fn number_of(w: u32) -> i32
-    ensures { result ≡ signed_word w }
-{
-    fold(w as i64)
-}
+// How many words of 32 bits there are.
+const TURN: u64 = 4294967296;
 
-fn wrapping_add(a: i32, b: i32) -> i32
-    ensures { result ≡ wrap (a +ℤ b) }
-{
-    let x = word_of(a);
-    let y = word_of(b);
-    number_of(std::num::wrapping_add_u32(x, y))
-}
-
-fn wrapping_sub(a: i32, b: i32) -> i32
-    ensures { result ≡ wrap (a -ℤ b) }
-{
-    let x = word_of(a);
-    let y = word_of(b);
-    number_of(std::num::wrapping_sub_u32(x, y))
-}
-
-// No wrapping product is supplied: this one takes the exact product of 64 bits.
+// 01 names a product of the project's own: the exact one of 64 bits, of which the low 32 are kept.
 fn wrapping_mul(a: i32, b: i32) -> i32
     ensures { result ≡ wrap (a *ℤ b) }
 {
-    narrowed(wide(a) * wide(b))
+    let exact = i64::from(a) * i64::from(b);
+    let low = (exact.cast_unsigned() % TURN) as u32;
+    low.cast_signed()
 }
 
-// In 64 bits the lowest number by -1 has a quotient.
-fn quotient(a: i32, b: i32) -> i32
-    requires { 0 < unsigned_abs b }
-    ensures { result ≡ wrap (int_div a b) }
-{
-    narrowed(wide(a) / wide(b))
-}
-
-#[tactic(auto, using(crate::proofs::Wrap::word_of_zero, crate::proofs::Wrap::gave_quotient))]
-fn calculate_wholes(by: Operation, a: i32, b: i32) -> Calculated
+// The lowest number by -1 wraps too.
+#[tactic(auto, using(crate::proofs::Wrap::zero_divisor, crate::proofs::Wrap::gave_quotient))]
+fn calculate_wholes(by: Operation, a: i32, b: i32) -> Result<Value, Stop>
     ensures { result ≡ wholes by a b }
 {
     match by {
-        Operation::Add => Calculated::Value(Value::Whole(wrapping_add(a, b))),
-        Operation::Sub => Calculated::Value(Value::Whole(wrapping_sub(a, b))),
-        Operation::Mul => Calculated::Value(Value::Whole(wrapping_mul(a, b))),
+        Operation::Add => Ok(Value::Whole(a.wrapping_add(b))),
+        Operation::Sub => Ok(Value::Whole(a.wrapping_sub(b))),
+        Operation::Mul => Ok(Value::Whole(wrapping_mul(a, b))),
         Operation::Div => {
             if b == 0 {
-                return Calculated::ByZero;
+                return Err(Stop::ByZero);
             }
-            Calculated::Value(Value::Whole(quotient(a, b)))
+            Ok(Value::Whole(a.wrapping_div(b)))
         }
     }
 }
 
+// Here and of floats each comparison is one test of its type: by an order that both have (`PartialOrd`) it would be up
+// to three, since a float's order tries less, equal and greater in turn.
 fn compare_wholes(by: Comparison, a: i32, b: i32) -> bool
     ensures { result ≡ compare_wholes by a b }
 {
@@ -313,7 +236,7 @@ fn compare_wholes(by: Comparison, a: i32, b: i32) -> bool
 // The pattern of every NaN here.
 const NAN: u64 = 9221120237041090560;
 
-// The 64 bits of a float.
+// The 64 bits of a float: the library's ask for one that is no NaN.
 pub fn bits_of(x: f64) -> u64
     ensures { result ≡ to_bits binary64 x }
 {
@@ -333,16 +256,16 @@ fn is_zero(x: f64) -> bool
     x == 0.0
 }
 
-fn check(x: f64) -> Calculated
+fn check(x: f64) -> Result<Value, Stop>
     ensures { result ≡ checked x }
 {
     if finite_float(x) {
-        return Calculated::Value(Value::Real(x));
+        return Ok(Value::Real(x));
     }
-    Calculated::NotFinite
+    Err(Stop::NotFinite)
 }
 
-fn calculate_reals(by: Operation, a: f64, b: f64) -> Calculated
+fn calculate_reals(by: Operation, a: f64, b: f64) -> Result<Value, Stop>
     ensures { result ≡ reals by a b }
 {
     match by {
@@ -351,7 +274,7 @@ fn calculate_reals(by: Operation, a: f64, b: f64) -> Calculated
         Operation::Mul => check(a * b),
         Operation::Div => {
             if is_zero(b) {
-                return Calculated::ByZero;
+                return Err(Stop::ByZero);
             }
             check(a / b)
         }
@@ -386,18 +309,13 @@ pub fn is_finite(v: Value) -> bool
 // A result, or why there is none: a division by zero, or a result that is not finite. Of two kinds there is none
 // either, and no run gets there: fault 61 is tested before.
 #[tactic(auto, unfolding(crate::specs::Arithmetic::calculated))]
-pub fn calculate(by: Operation, a: Value, b: Value) -> Calculated
+pub fn calculate(by: Operation, a: Value, b: Value) -> Result<Value, Stop>
     ensures { result ≡ calculated by a b }
 {
-    match a {
-        Value::Whole(x) => match b {
-            Value::Whole(y) => calculate_wholes(by, x, y),
-            Value::Real(_) => Calculated::NotFinite,
-        },
-        Value::Real(x) => match b {
-            Value::Whole(_) => Calculated::NotFinite,
-            Value::Real(y) => calculate_reals(by, x, y),
-        },
+    match (a, b) {
+        (Value::Whole(x), Value::Whole(y)) => calculate_wholes(by, x, y),
+        (Value::Real(x), Value::Real(y)) => calculate_reals(by, x, y),
+        _ => Err(Stop::NotFinite),
     }
 }
 
@@ -406,14 +324,9 @@ pub fn calculate(by: Operation, a: Value, b: Value) -> Calculated
 pub fn compare(by: Comparison, a: Value, b: Value) -> bool
     ensures { result ≡ compares by a b }
 {
-    match a {
-        Value::Whole(x) => match b {
-            Value::Whole(y) => compare_wholes(by, x, y),
-            Value::Real(_) => false,
-        },
-        Value::Real(x) => match b {
-            Value::Whole(_) => false,
-            Value::Real(y) => compare_reals(by, x, y),
-        },
+    match (a, b) {
+        (Value::Whole(x), Value::Whole(y)) => compare_wholes(by, x, y),
+        (Value::Real(x), Value::Real(y)) => compare_reals(by, x, y),
+        _ => false,
     }
 }

@@ -5,35 +5,11 @@
 ghost use Rattle.std.specs.Prelude.{◌≡◌, length};
 
 use std::io;
-use stream::Input;
-use vetting::{Told, vet};
 
-fn put_told(out: &impl Print, told: Told) -> io::Result<()> {
-    let number = told.number;
-    let line = told.line;
-    println!(out; "result={number}")?;
-    if number == 0 {
-        return Ok(());
-    }
-    println!(out; "line={line}")
-}
-
-fn say(err: &impl Eprint, text: &str) {
-    let _ = err.eprintln(text);
-}
-
-// A pipe that nobody reads any further is no failure to speak of.
-fn say_unwritten(err: &impl Eprint, error: io::Error) {
-    match error.kind() {
-        io::ErrorKind::BrokenPipe => {}
-        _ => say(err, "vet: standard output could not be written"),
-    }
-}
-
-fn judge(rt: &(impl Print + Eprint), text: &[u8]) {
-    match put_told(rt, vet(text)) {
-        Ok(_) => {}
-        Err(error) => say_unwritten(rt, error),
+fn judge(out: &impl Print, text: &[u8]) -> io::Result<()> {
+    match vetting::vet(text) {
+        Ok(()) => println!(out; "result=0"),
+        Err((why, line)) => println!(out; "result={}\nline={line}", u8::from(why)),
     }
 }
 
@@ -46,9 +22,8 @@ fn buffer() -> [u8; 8193]
 
 fn main(rt: HostRuntime) {
     let mut bytes = buffer();
-    let input = stream::read_whole(&mut rt.stdin(), &mut bytes);
-    match input {
-        Input::Bytes(n) => judge(&rt, &bytes[..n]),
-        Input::Failed => say(&rt, "vet: standard input could not be read"),
+    match stream::read_whole(&mut rt.stdin(), &mut bytes) {
+        Ok(n) => stream::say_written(&rt, "vet", judge(&rt, &bytes[..n])),
+        Err(_) => stream::say_unread(&rt, "vet"),
     }
 }

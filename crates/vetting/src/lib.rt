@@ -2,43 +2,53 @@
 #![tactic(auto)]
 
 ghost use Rattle.std.specs.Prelude.{◌≡◌};
-ghost use Rattle.rules.specs.Verdict.{meaning};
-ghost use Rattle.vetting.specs.Vet.{told, vetted};
+ghost use Rattle.vetting.specs.declared.Refusal.TheVariants as Refusal;
+ghost use Rattle.vetting.specs.Vet.{number_of, told, vetted};
 
-use loader::Answer;
-use rules::Verdict;
-
-// 01's number and line, both 0 where the script is accepted.
+// The first that is broken: what is wrong with a script's text, or the rule that its table breaks.
 #[derive(Clone, Copy)]
-pub struct Told {
-    pub number: u8,
-    pub line: usize,
+pub enum Refusal {
+    Form(argument::Refusal),
+    Rules(rules::Refusal),
 }
 
-fn tell(verdict: Verdict) -> Told
-    ensures { result ≡ told (meaning verdict) }
-{
-    match verdict {
-        Verdict::Accepted => Told { number: 0, line: 0 },
-        Verdict::Refused(refusal, line) => Told {
-            number: rules::number(refusal),
-            line: line,
-        },
+impl From<argument::Refusal> for Refusal {
+    ghost from_gives = { λ why r. r ≡ Refusal.Form why };
+
+    fn from(why: argument::Refusal) -> Refusal {
+        Refusal::Form(why)
     }
 }
 
-// The first refusal of form, else of the rules.
-pub fn vet(text: &[u8]) -> Told
-    ensures { result ≡ vetted text.now }
+impl From<rules::Refusal> for Refusal {
+    ghost from_gives = { λ why r. r ≡ Refusal.Rules why };
+
+    fn from(why: rules::Refusal) -> Refusal {
+        Refusal::Rules(why)
+    }
+}
+
+// 01's number of a refusal, 10 to 26, and 30.
+impl From<Refusal> for u8 {
+    ghost from_gives = { λ why r. r ≡ number_of why };
+
+    fn from(why: Refusal) -> u8 {
+        match why {
+            Refusal::Form(refusal) => u8::from(refusal),
+            Refusal::Rules(refusal) => u8::from(refusal),
+        }
+    }
+}
+
+// The first refusal of form, else of the rules, and its line.
+pub fn vet(text: &[u8]) -> Result<(), (Refusal, usize)>
+    ensures { told result ≡ vetted text.now }
 {
-    let loaded = loader::load(text);
-    let answer = loaded.answer;
-    let table = loaded.table;
-    match answer {
-        Answer::Accepted => tell(rules::check(text, table)),
-        Answer::Refused(why, line) => Told {
-            number: argument::number(why),
-            line: line,
+    match loader::load(text) {
+        Ok(table) => match rules::check(text, table) {
+            Ok(()) => Ok(()),
+            Err((why, line)) => Err((Refusal::from(why), line)),
         },
+        Err((why, line)) => Err((Refusal::from(why), line)),
     }
 }

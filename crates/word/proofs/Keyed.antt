@@ -205,7 +205,7 @@ none_left a h =
     drop-drop 8 8 a ∙ drop_of_length-le a short
 
 pub same_rows : {a b : List ℕ} {k j : Key} → KeyOf a k → KeyOf b j → same_key k j ≡ same_bytes a b
-unfolding same_key same_bytes
+unfolding same_bytes
 same_rows {a} {b} {k} {j} p q =
     let front = same_front 8 a b (omega (arith, p)) (omega (arith, q)) p.front.bytes q.front.bytes in
     let back =

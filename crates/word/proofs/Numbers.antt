@@ -1,19 +1,20 @@
 -- Laws of small numbers. Assumes nothing.
-use borrow.Author.Tests.{eq-eqb, le-leb, lt-leb, ne_eqb}
-use lib.Dec.{eqb}
+use Rattle.std.proofs.Common.{Result, Ok, Err, Some, None}
+use Rattle.std.specs.Result.{OkIff, result_ok}
+use borrow.Author.Tests.{eq-eqb, le-leb, lt-leb, ne_eqb, leb-true}
+use lib.Dec.{eqb, leb}
 use lib.ListN.{length}
-use mathlib.Core.Bool.{true}
+use mathlib.Core.Bool.{Bool, true, false}
 use mathlib.Core.List.{List}
-use mathlib.Core.Path.{◌≡◌, ◌∙◌, ap, sym}
+use mathlib.Core.Path.{◌≡◌, refl, ◌∙◌, ap, sym}
 use native.Mathlib.Nat.{zero-add}
 use native.Mathlib.Omega.{arith}
-use Prim.Native.Nat.{ℕ, min, ◌-◌, ◌^◌, ◌≤◌, ◌<◌}
+use Prim.Native.Nat.{ℕ, min, ◌-◌, ◌^◌, ◌<◌}
 use Rattle.text.specs.Decimal.{digit_run, number, number_at}
 use Rattle.text.specs.declared.Number.{Number}
-use Rattle.word.specs.declared.Small.TheVariants as Small
 use Rattle.word.specs.Word.{read_small, small_of}
 
-pub none : (w : List ℕ) → length w ≡ 0 → Small.Bad ≡ small_of w
+pub none : (w : List ℕ) → length w ≡ 0 → None ≡ small_of w
 unfolding small_of
 none w h = simp (lt-leb 1 (length w) (omega arith))
 
@@ -31,10 +32,10 @@ module _ (w : List ℕ) (some : length w ≡ 0 → ⊥) {read : Number} (e : rea
   unfolding number_at
   number_is = ap (λ (r : Number). r.number) e
 
-  pub other_bytes : (read.next ≡ length w → ⊥) → Small.Bad ≡ small_of w
+  pub other_bytes : (read.next ≡ length w → ⊥) → None ≡ small_of w
   unfolding read_small
   other_bytes n =
-      let bad : read_small w ≡ Small.Bad = simp (ne_eqb (digit_run w) (length w) (λ q. n (next_is ∙ q))) in
+      let bad : read_small w ≡ None = simp (ne_eqb (digit_run w) (length w) (λ q. n (next_is ∙ q))) in
       sym bad ∙ opened
 
   -- digits alone
@@ -42,15 +43,16 @@ module _ (w : List ℕ) (some : length w ≡ 0 → ⊥) {read : Number} (e : rea
     runs : eqb (digit_run w) (length w) ≡ true
     runs = eq-eqb (digit_run w) (length w) (sym next_is ∙ all)
 
-    pub too_large : 255 < read.number → Small.Bad ≡ small_of w
+    pub as_small : {E : Type 0} (r : Result ℕ E) → OkIff r (read.number < 256) read.number → result_ok r ≡ small_of w
     unfolding read_small
-    too_large h =
-        let bad : read_small w ≡ Small.Bad = simp (runs, lt-leb (number w) 255 (omega (arith, number_is))) in
-        sym bad ∙ opened
-
-    pub small : read.number ≤ 255 → Small.Number read.number ≡ small_of w
-    unfolding read_small
-    small h =
-        let k : read.number ≡ number w = omega (arith, number_is) in
-        let good : read_small w ≡ Small.Number (number w) = simp (runs, le-leb (number w) 255 (omega (arith, k))) in
-        rw k (sym good ∙ opened)
+    as_small (Ok v) h =
+        let k : read.number ≡ number w = omega (arith, number_is, h.0) in
+        let good : read_small w ≡ Some (number w) = simp (runs, le-leb (number w) 255 (omega (arith, k, h.0))) in
+        rw (h.1, k) (sym good ∙ opened)
+    as_small (Err e) h = large (leb (number w) 255) refl
+      where
+        large : (b : Bool) → leb (number w) 255 ≡ b → None ≡ small_of w
+        large true l = absurd (h (omega (arith, number_is, leb-true (number w) 255 l)))
+        large false l =
+            let bad : read_small w ≡ None = simp (runs, l) in
+            sym bad ∙ opened

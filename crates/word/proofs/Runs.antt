@@ -1,13 +1,13 @@
 -- Laws of runs of bytes and of words. Assumes nothing.
-use mathlib.Core.Path.{◌≡◌, refl, sym, ◌∙◌, ap}
+use mathlib.Core.Path.{◌≡◌, refl, ap}
 use mathlib.Core.Bool.{Bool, true, false, cond}
 use mathlib.Core.List.{List, [], ◌∷◌}
-use Prim.Native.Nat.{ℕ, suc, min, ◌+◌, ◌-◌, ◌≤◌, ◌<◌}
+use Prim.Native.Nat.{ℕ, suc, max, ◌+◌, ◌-◌, ◌≤◌, ◌<◌}
 use native.Mathlib.Numerals.{add-one}
 use native.Mathlib.Omega.{arith}
 use lib.Dec.{eqb, leb}
-use lib.ListN.{length, take, drop, get_or, drop_of_length-le, length-drop}
-use lib.Seq.{drop-cons, take_all, take-nil}
+use lib.ListN.{length, drop, get_or, drop_of_length-le, length-drop}
+use lib.Seq.{drop-cons}
 use borrow.Author.Tests.{eq-eqb, ne_eqb, leb-true, leb-false}
 use Rattle.word.specs.declared.Class.{Class}
 use Rattle.word.specs.declared.Span.{Span}
@@ -40,8 +40,18 @@ pub stops : {k : Class} {s : List ℕ} {at i : ℕ} → Running k s at i → i <
     → i ≡ at + run k (drop at s)
 stops {k} {s} {at} {i} r h t = omega (arith, r, run_stop k s i h t)
 
-pub ends : {k : Class} {s : List ℕ} {at i : ℕ} → Running k s at i → length s ≤ i → i ≡ at + run k (drop at s)
-ends {k} {s} {at} {i} r h = omega (arith, r, run_end k s i h)
+-- where the line ends before it does, or has ended before the run begins
+pub at_end : {k : Class} {s : List ℕ} {at i r : ℕ} → Running k s at i → r ≡ max at (length s) → length s ≤ i
+    → (at ≤ length s → i ≤ length s) → r ≡ at + run k (drop at s)
+at_end {k} {s} {at} {i} {r} c e h w = go (leb at (length s)) refl
+  where
+    go : (t : Bool) → leb at (length s) ≡ t → r ≡ at + run k (drop at s)
+    go true l =
+        let here : i ≤ length s = w (leb-true at (length s) l) in
+        omega (arith, c, run_end k s i h, leb-true at (length s) l)
+    go false l =
+        let past : length s < at = leb-false at (length s) l in
+        omega (arith, run_end k s at (omega arith))
 
 -- ---- words
 
@@ -65,44 +75,6 @@ inside w s i e h =
     let a : run Class.Blank (drop i s) ≤ length s - i = rw (← length-drop i s) (run_le Class.Blank (drop i s)) in
     let b : run Class.Solid (drop f s) ≤ length s - f = rw (← length-drop f s) (run_le Class.Solid (drop f s)) in
     (omega arith, omega arith)
-
--- a part is what there is of it between its ends
-module _ (s : List ℕ) (a b : ℕ) where
-  ends_within : a ≤ min b (length s) → take (min b (length s) - a) (drop a s) ≡ take (b - a) (drop a s)
-  ends_within h = go (leb b (length s)) refl
-    where
-      go : (t : Bool) → leb b (length s) ≡ t → take (min b (length s) - a) (drop a s) ≡ take (b - a) (drop a s)
-      go true l =
-          let same : min b (length s) ≡ b = omega (arith, leb-true b (length s) l) in
-          rw same refl
-      go false l =
-          let size = length-drop a s in
-          let past : length s < b = leb-false b (length s) l in
-          take_all (min b (length s) - a) (drop a s) (omega (arith, size, past))
-          ∙ sym (take_all (b - a) (drop a s) (omega (arith, size, past)))
-
-  nothing_between : min b (length s) < a → take (b - a) (drop a s) ≡ []
-  nothing_between h = go (leb b a) refl
-    where
-      go : (t : Bool) → leb b a ≡ t → take (b - a) (drop a s) ≡ []
-      go true l =
-          let none : b - a ≡ 0 = omega (arith, leb-true b a l) in
-          rw none refl
-      go false l =
-          let past : length s ≤ a = omega (arith, leb-false b a l) in
-          rw (drop_of_length-le s past) (take-nil (b - a))
-
-  pub clipped : (start end : ℕ) → end ≡ min b (length s) → start ≡ min a end
-      → take (end - start) (drop start s) ≡ take (b - a) (drop a s)
-  clipped start end e f = go (leb a end) refl
-    where
-      go : (t : Bool) → leb a end ≡ t → take (end - start) (drop start s) ≡ take (b - a) (drop a s)
-      go true l =
-          let same : start ≡ a = omega (arith, leb-true a end l) in
-          rw (same, e) (ends_within (omega (arith, leb-true a end l)))
-      go false l =
-          let none : end - start ≡ 0 = omega (arith, leb-false a end l) in
-          rw none (sym (nothing_between (omega (arith, leb-false a end l))))
 
 -- ---- lines that are skipped
 

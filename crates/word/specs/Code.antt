@@ -1,8 +1,8 @@
 -- What only the code's shape needs: rows as numbers of eight bytes.
+use Rattle.std.specs.Prelude.{Option}
 use Rattle.std.specs.Prelude.{eqb, length, take, drop, replicate, Bool, ◌&&◌, List, [], ◌∷◌, ◌++◌, ◌≡◌, ℕ, ◌+◌, ◌*◌}
 use Rattle.std.specs.Prelude.{◌%◌, ◌^◌, ◌<◌}
 use Rattle.text.specs.Bytes.{byte}
-use Rattle.word.specs.declared.Found.{Found}
 use Rattle.word.specs.declared.Key.{Key}
 use Rattle.word.specs.Word.{place}
 
@@ -35,9 +35,9 @@ pub record KeyOf (row : List ℕ) (k : Key) : Type 0 where
   pub front : Eight row k.low
   pub back : Eight (drop 8 row) k.high
 
-unfoldable pub same_key : Key → Key → Bool
+abbrev pub same_key : Key → Key → Bool
 same_key a b = eqb a.low b.low && eqb a.high b.high
 
 -- f is the first row that is the one whose key this is
-pub record FoundBy (k : Key) (rows : List (List ℕ)) (f : Found) : Type 0 where
+pub record FoundBy (k : Key) (rows : List (List ℕ)) (f : Option ℕ) : Type 0 where
   pub first : (row : List ℕ) → KeyOf row k → f ≡ place 0 rows row

@@ -1,13 +1,11 @@
 -- 01, "Script text": words, names, types, the small numbers n, and words of a table.
+use Rattle.std.specs.Prelude.{Option, Some, None}
 use Rattle.std.specs.Prelude.{leb, eqb, length, take, drop, get_or, replicate, Bool, true, false, not, ◌&&◌, ◌||◌, cond}
 use Rattle.std.specs.Prelude.{List, [], ◌∷◌, ◌++◌, ℕ, suc, ◌+◌, ◌-◌, ◌*◌}
 use Rattle.text.specs.Bytes.{byte, blank, lower, starts, name_byte}
 use Rattle.text.specs.Decimal.{digit_run, number}
 use Rattle.word.specs.declared.Class.{Class}
-use Rattle.word.specs.declared.Found.{Found}
-use Rattle.word.specs.declared.Small.{Small}
 use Rattle.word.specs.declared.Span.{Span}
-use Rattle.word.specs.declared.TypeName.{TypeName}
 
 unfoldable pub in_class : Class → ℕ → Bool
 in_class Class.Blank c = blank c
@@ -43,17 +41,17 @@ name_form w =
     leb 1 (length w) && (leb (length w) 16 && (starts (get_or w 0 0) && eqb (run Class.NameByte w) (length w)))
 
 -- two lower-case letters, the first times 256 and the second
-unfoldable pub read_type : List ℕ → TypeName
+unfoldable pub read_type : List ℕ → Option ℕ
 read_type w =
     cond (eqb (length w) 2 && (lower (get_or w 0 0) && lower (get_or w 1 0)))
-    (TypeName.Letters (get_or w 0 0 * 256 + get_or w 1 0)) TypeName.Bad
+    (Some (get_or w 0 0 * 256 + get_or w 1 0)) None
 
 -- digits 0 to 255, in any count
-unfoldable pub read_small : List ℕ → Small
-read_small w = cond (eqb (digit_run w) (length w) && leb (number w) 255) (Small.Number (number w)) Small.Bad
+unfoldable pub read_small : List ℕ → Option ℕ
+read_small w = cond (eqb (digit_run w) (length w) && leb (number w) 255) (Some (number w)) None
 
-unfoldable pub small_of : List ℕ → Small
-small_of w = cond (leb 1 (length w)) (read_small w) Small.Bad
+unfoldable pub small_of : List ℕ → Option ℕ
+small_of w = cond (leb 1 (length w)) (read_small w) None
 
 -- ---- words of a table: 16 bytes a row, filled up with spaces, which no word holds
 
@@ -67,10 +65,10 @@ same_bytes (c ∷ s) [] = false
 same_bytes (c ∷ s) (d ∷ t) = eqb c d && same_bytes s t
 
 -- the first row that is the word, counted from i
-unfoldable pub place : ℕ → List (List ℕ) → List ℕ → Found
-place i [] w = Found.Nothing
-place i (r ∷ rs) w = cond (same_bytes r w) (Found.At i) (place (i + 1) rs w)
+unfoldable pub place : ℕ → List (List ℕ) → List ℕ → Option ℕ
+place i [] w = None
+place i (r ∷ rs) w = cond (same_bytes r w) (Some i) (place (i + 1) rs w)
 
 -- the row of a table that is the word; none for a word that no row can hold
-unfoldable pub seek : List (List ℕ) → List ℕ → Found
-seek rows w = cond (leb (length w) 16) (place 0 rows (padded w)) Found.Nothing
+unfoldable pub seek : List (List ℕ) → List ℕ → Option ℕ
+seek rows w = cond (leb (length w) 16) (place 0 rows (padded w)) None

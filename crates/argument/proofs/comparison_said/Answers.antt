@@ -4,11 +4,11 @@ use mathlib.Core.Path.{sym, ◌∙◌}
 use Rattle.argument.specs.Argument.{signs, comparison_said}
 use Rattle.argument.proofs.comparison_said.Goals as goal
 
-pub returns-in-At : goal.returns-in-At
+pub returns-in-Some : goal.returns-in-Some
 unfolding comparison_said signs padded
-returns-in-At c =
-    simp (c.comparison_at.ensures, sym c.seek_word.ensures ∙ c.in-At.is)
+returns-in-Some c =
+    simp (c.comparison_at.ensures, sym c.seek_word.ensures ∙ c.in-Some.is)
 
-pub returns-in-Nothing : goal.returns-in-Nothing
+pub returns-in-None : goal.returns-in-None
 unfolding comparison_said signs padded
-returns-in-Nothing c = simp (sym c.seek_word.ensures ∙ c.in-Nothing.is)
+returns-in-None c = simp (sym c.seek_word.ensures ∙ c.in-None.is)

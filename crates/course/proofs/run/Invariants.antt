@@ -5,17 +5,8 @@ use lib.ListN.{length, take}
 use Rattle.course.specs.Course.{steps_of}
 use Rattle.lookup.proofs.Laying.{Leaves}
 use Rattle.lookup.proofs.Looking.{stage, Trying}
-use Rattle.lookup.proofs.Passing.{Passed}
 use Rattle.course.proofs.Turns.{Within, Rounds}
 use Rattle.course.proofs.run.Given as goal
-
--- the table's items
-abbrev pub invariant-loop-m : goal.invariant-loop-m
-invariant-loop-m l =
-    Passed (length l.text) l.table l.count l.roles l.sound l.m
-
-abbrev pub decreases-loop-m : goal.decreases-loop-m
-decreases-loop-m l = l.count - l.m
 
 -- the turns
 abbrev pub invariant-loop-i : goal.invariant-loop-i
@@ -23,15 +14,12 @@ invariant-loop-i l =
     Rounds (take l.budget (steps_of l.steps)) l.n l.steps.at l.state l.i l.answers l.things l.handed l.stayed
     (stage (length l.text) l.table l.marks.at l.count l.tag l.shaped l.vars l.spot l.status)
 
-abbrev pub decreases-loop-i : goal.decreases-loop-i
-decreases-loop-i l = l.n - l.i
-
 -- the mates that a false condition tries
 abbrev pub invariant-loop-found : goal.invariant-loop-found
 invariant-loop-found l =
     Within
-    (Trying (stage (length l.text) l.table l.marks.at l.count l.tag l.shaped l.vars l.spot l.status) l.control l.offer
-    l.item l.cells l.found l.j)
+    (Trying (stage (length l.text) l.table l.marks.at l.count l.tag l.shaped l.vars l.spot l.status) l.told.control
+    l.told.offer l.item l.cells l.found l.j)
     (Rounds (take l.budget (steps_of l.steps)) l.n l.steps.at l.state l.i l.answers l.things l.handed l.stayed
     (stage (length l.text) l.table l.marks.at l.count l.tag l.shaped l.vars l.spot l.status))
     l.i l.n l.things l.handed
@@ -42,7 +30,4 @@ decreases-loop-found l = l.count - l.j
 -- the marks of the boxes that are left
 abbrev pub invariant-loop-k : goal.invariant-loop-k
 invariant-loop-k l =
-    Leaves 512 l.marks.at l.spot.boxes l.initial.things l.initial.handed l.initial.k l.from l.things l.handed l.k
-
-abbrev pub decreases-loop-k : goal.decreases-loop-k
-decreases-loop-k l = l.k
+    Leaves 512 l.marks.at l.spot.boxes l.initial.things l.initial.handed l.left l.from l.things l.handed l.k

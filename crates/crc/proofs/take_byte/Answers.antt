@@ -3,15 +3,15 @@ use borrow.Author.Rules.{rules}
 use lib.Bits.{bit_xor, xor_lt}
 use lib.ListN.{get_or}
 use mathlib.Core.List.{List}
-use mathlib.Core.Path.{◌≡◌, ◌∙◌, ap, ap₂, sym}
+use mathlib.Core.Path.{◌≡◌, ◌∙◌, ap, ap₂, refl, sym}
 use native.Mathlib.Omega.{arith}
 use Prim.Native.Nat.{ℕ, ◌*◌, ◌/◌, ◌%◌, ◌^◌, ◌<◌}
 use Rattle.crc.proofs.Linear.{by_table}
 use Rattle.crc.proofs.Table.{at}
 use Rattle.crc.specs.Code.{entries}
-use Rattle.crc.specs.Crc.{step}
+use Rattle.crc.specs.declared.TheConstants.{TABLE}
+use Rattle.crc.specs.Crc.{shift, shifts, step}
 use Rattle.crc.proofs.take_byte.Goals as goal
-use Rattle.crc.proofs.take_byte.Goals.{Start}
 
 -- ---- the register r and the byte b
 module _ (r b : ℕ) (h : r < 2 ^ 16) (k : b < 2 ^ 8) where
@@ -29,19 +29,9 @@ module _ (r b : ℕ) (h : r < 2 ^ 16) (k : b < 2 ^ 8) where
   stepped table e =
       ap₂ bit_xor moved (ap (λ (t : List ℕ). get_or t place 0) e ∙ at 256 place place_lt) ∙ sym (by_table r b h)
 
-module _ (c : Start) where
-  within : bit_xor c.args.b (c.args.r / 2 ^ 8) < 2 ^ 8
-  within = place_lt c.args.r c.args.b (search rules) (search rules)
-
-pub overflow_cast-result : goal.overflow_cast-result
-overflow_cast-result c = omega (arith, within c)
-
-pub offset_bounds-table-k : goal.offset_bounds-table-k
-offset_bounds-table-k c = omega (arith, within c)
-
-pub bounds-table-k : goal.bounds-table-k
-bounds-table-k c = omega (arith, within (goal.at.bounds-table-k c).Start)
+laid : TABLE ≡ entries 0 256
+unfolding entries shifts shift
+laid = refl
 
 pub returns : goal.returns
-returns c =
-    stepped c.args.r c.args.b (search rules) (search rules) _ c.requires
+returns c = stepped c.args.r c.args.b (search rules) (search rules) _ laid

@@ -1,6 +1,7 @@
--- `frame::has_newline` goes to the end, whatever it finds. Assumes nothing.
-use Rattle.frame.proofs.Newline.{end}
+-- `frame::has_newline`: as the library tells it. Assumes nothing.
+use Rattle.std.proofs.Common.{◌∙◌}
+use Rattle.frame.proofs.Newline.{is_any}
 use Rattle.frame.proofs.has_newline.Goals as goal
 
 pub returns : goal.returns
-returns c = end c.loop-i.invariant c.loop-i-test.false
+returns c = c.contains.ensures.value ∙ is_any _ _

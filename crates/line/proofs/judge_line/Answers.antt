@@ -15,27 +15,27 @@ module _ (c : After-find_command) where
 
 -- with what the arguments of a command say
 module _ (c : After-say_all-x) where
-  asked : Asked c.args.names.now c.args.script.now c.args.at c.word_at-w.result c.in-At.k c.say_all-x.result
+  asked : Asked c.args.names.now c.args.script.now c.args.at c.word_at-w.result c.in-Some.k c.say_all-x.result
   asked =
       record {
         word = c.word_at-w.ensures;
-        row = sym (c.find_command.ensures ∙ ap (seek command_words) c.part_of.ensures) ∙ c.in-At.is;
+        row = sym (c.find_command.ensures ∙ ap (seek command_words) c.part_of.ensures) ∙ c.in-Some.is;
         says = rw c.shape_at-shape.ensures at c.say_all-x.ensures;
       }
 
-pub returns-in-Nothing : goal.returns-in-Nothing
+pub returns-in-None : goal.returns-in-None
 unfolding meaning number_of
-returns-in-Nothing c =
-    unknown _ _ _ _ c.word_at-w.ensures (sought (goal.at.returns-in-Nothing c).After-find_command ∙ c.in-Nothing.is)
+returns-in-None c =
+    unknown _ _ _ _ c.word_at-w.ensures (sought (goal.at.returns-in-None c).After-find_command ∙ c.in-None.is)
 
-pub returns-in-Wrong : goal.returns-in-Wrong
+pub returns-in-Some-worst_of : goal.returns-in-Some-worst_of
 unfolding meaning
-returns-in-Wrong c =
-    faulty (asked (goal.at.returns-in-Wrong c).After-say_all-x) c.worst_of.result _ c.worst_of.ensures
-    c.in-Wrong.is
+returns-in-Some-worst_of c =
+    faulty (asked (goal.at.returns-in-Some-worst_of c).After-say_all-x) _
+    (rw c.in-Some-worst_of.is at c.worst_of.ensures)
 
-pub returns-in_default : goal.returns-in_default
+pub returns-in-None-worst_of : goal.returns-in-None-worst_of
 unfolding meaning
-returns-in_default c =
-    good (asked (goal.at.returns-in_default c).After-say_all-x) c.worst_of.result _ c.worst_of.ensures
-    c.in_default.not-Wrong (rw c.make_at-make.ensures at c.item_of.ensures)
+returns-in-None-worst_of c =
+    good (asked (goal.at.returns-in-None-worst_of c).After-say_all-x) _ (rw c.in-None-worst_of.is at c.worst_of.ensures)
+    (rw c.make_at-make.ensures at c.item_of.ensures)

@@ -1,17 +1,28 @@
 -- `loader::load` goes through the lines in order. What is known at a place of a round is said once, at the place.
 -- Assumes nothing.
+use Rattle.std.proofs.Common.{Option, Some, None, Result, Ok}
 use borrow.Author.Tests.{lt-ltb}
 use lib.Seq.{length-take-le}
 use mathlib.Core.Path.{◌≡◌, sym, ◌∙◌, ap}
 use native.Mathlib.Omega.{arith}
 use Prim.Native.Nat.{◌-◌}
+use Rattle.table.specs.declared.Item.{Item}
+use Rattle.argument.specs.declared.Refusal.{Refusal}
 use Rattle.argument.specs.Refusal.{number_of}
+use Rattle.line.specs.Line.{item}
 use Rattle.loader.proofs.Walk.{begin, no_line, Sought, no_end, ended, Round, known_as, refuses, skips}
 use Rattle.loader.proofs.Walk.{room_for, takes_plain, takes_name}
 use Rattle.loader.specs.Code.{taken_of}
-use Rattle.loader.specs.Load.{loaded}
+use Rattle.loader.specs.Load.{nothing, given, loaded}
 use Rattle.loader.proofs.load.Goals as goal
 use Rattle.loader.proofs.load.Goals.{After-next_byte-stop, After-take_line-taken}
+
+gives_item : {r : Result (Option Item) Refusal} {o : Option Item} {it : Item} → r ≡ Ok o → o ≡ Some it
+    → taken_of r ≡ given (item it)
+gives_item e f = ap taken_of (e ∙ ap Ok f)
+
+gives_none : {r : Result (Option Item) Refusal} {o : Option Item} → r ≡ Ok o → o ≡ None → taken_of r ≡ nothing
+gives_none e f = ap taken_of (e ∙ ap Ok f)
 
 -- with the place of the next newline
 module _ (c : After-next_byte-stop) where
@@ -35,53 +46,54 @@ module _ (c : After-take_line-taken) where
 
 pub returns-then-size-gt-MOST_BYTES : goal.returns-then-size-gt-MOST_BYTES
 unfolding loaded number_of
-returns-then-size-gt-MOST_BYTES c = c.refuse.ensures ∙ simp (lt-ltb _ _ c.if-size-gt-MOST_BYTES.true)
+returns-then-size-gt-MOST_BYTES c = simp (lt-ltb _ _ c.if-size-gt-MOST_BYTES.true)
 
 pub loop-at-init : goal.loop-at-init
-loop-at-init c = begin _ c.if-size-gt-MOST_BYTES.false
+loop-at-init c = rw c.empty-table.ensures (begin _ c.if-size-gt-MOST_BYTES.false)
 
 pub returns-then-size-stop : goal.returns-then-size-stop
 unfolding number_of
 returns-then-size-stop c =
-    c.refuse-then-size-stop.ensures
-    ∙ no_end (sought (goal.at.returns-then-size-stop c).After-next_byte-stop) c.if-size-stop.true
+    no_end (sought (goal.at.returns-then-size-stop c).After-next_byte-stop) c.if-size-stop.true
 
 pub returns-then-stop-at : goal.returns-then-stop-at
 returns-then-stop-at c =
-    c.accept.ensures
-    ∙ ended (sought (goal.at.returns-then-stop-at c).After-next_byte-stop) c.if-size-stop.false c.if-stop-at.true
+    ended (sought (goal.at.returns-then-stop-at c).After-next_byte-stop) c.if-size-stop.false c.if-stop-at.true
 
 pub slice_bounds-take_line-end-in-loop-at : goal.slice_bounds-take_line-end-in-loop-at
 slice_bounds-take_line-end-in-loop-at c =
     let now = c.loop-at in
     sym (length-take-le now.table.names now.names (omega (arith, now.invariant.few, now.invariant.wide)))
 
-pub returns-in-Refused : goal.returns-in-Refused
-returns-in-Refused c =
-    let r = round (goal.at.returns-in-Refused c).After-take_line-taken in
-    c.refuse-in-Refused.ensures ∙ refuses _ (known_as r (ap taken_of c.in-Refused.is))
+pub returns-in-Err : goal.returns-in-Err
+returns-in-Err c =
+    let r = round (goal.at.returns-in-Err c).After-take_line-taken in
+    refuses _ (known_as r (ap taken_of c.in-Err.is))
 
 pub bounds-names-n : goal.bounds-names-n
 bounds-names-n c =
     let r = round (goal.at.bounds-names-n c).After-take_line-taken in
-    room_for (known_as r (ap taken_of c.in-Item.is)) (sym c.item_declares.ensures ∙ c.if-item_declares.true)
+    let given_item = gives_item c.in-Ok-Some.is (rw c.in-Ok-Some.is at c.in-Ok-Some.field-0-is) in
+    room_for (known_as r given_item) (sym c.item_declares.ensures ∙ c.if-item_declares.true)
 
 pub loop-at-preserved-then-item_declares : goal.loop-at-preserved-then-item_declares
 loop-at-preserved-then-item_declares c =
     let r = round (goal.at.loop-at-preserved-then-item_declares c).After-take_line-taken in
     let declared = sym c.item_declares.ensures ∙ c.if-item_declares.true in
-    rw (← c.name_row-row.ensures) at (takes_name (known_as r (ap taken_of c.in-Item.is)) declared)
+    let given_item = gives_item c.in-Ok-Some.is (rw c.in-Ok-Some.is at c.in-Ok-Some.field-0-is) in
+    rw (← c.name_row-row.ensures) at (takes_name (known_as r given_item) declared)
 
 pub loop-at-preserved-else-item_declares : goal.loop-at-preserved-else-item_declares
 loop-at-preserved-else-item_declares c =
     let r = round (goal.at.loop-at-preserved-else-item_declares c).After-take_line-taken in
-    takes_plain (known_as r (ap taken_of c.in-Item.is)) (sym c.item_declares.ensures ∙ c.if-item_declares.false)
+    let given_item = gives_item c.in-Ok-Some.is (rw c.in-Ok-Some.is at c.in-Ok-Some.field-0-is) in
+    takes_plain (known_as r given_item) (sym c.item_declares.ensures ∙ c.if-item_declares.false)
 
 pub loop-at-preserved : goal.loop-at-preserved
 loop-at-preserved c =
     let r = round (goal.at.loop-at-preserved c).After-take_line-taken in
-    skips (known_as r (ap taken_of c.in-Skipped.is))
+    skips (known_as r (gives_none c.in-Ok-None.is (rw c.in-Ok-None.is at c.in-Ok-None.field-0-is)))
 
 pub returns : goal.returns
 unfolding number_of
-returns c = c.refuse-2.ensures ∙ no_line c.loop-at.invariant c.loop-at-test.false
+returns c = no_line c.loop-at.invariant c.loop-at-test.false

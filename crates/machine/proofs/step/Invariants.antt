@@ -6,17 +6,8 @@ use Rattle.state.specs.Meaning.{cells_of}
 use Rattle.steps.specs.Code.{state_with}
 use Rattle.lookup.proofs.Laying.{Leaves}
 use Rattle.lookup.proofs.Looking.{stage, Trying}
-use Rattle.lookup.proofs.Passing.{Passed}
 use Rattle.machine.proofs.Turn.{From}
 use Rattle.machine.proofs.step.Given as goal
-
--- the table's items
-abbrev pub invariant-loop-m : goal.invariant-loop-m
-invariant-loop-m l =
-    Passed (length l.text) l.table l.count l.roles l.sound l.m
-
-abbrev pub decreases-loop-m : goal.decreases-loop-m
-decreases-loop-m l = l.count - l.m
 
 -- the mates that a false condition tries
 abbrev pub invariant-loop-found : goal.invariant-loop-found
@@ -32,7 +23,4 @@ decreases-loop-found l = l.count - l.j
 -- the marks of the boxes that are left
 abbrev pub invariant-loop-k : goal.invariant-loop-k
 invariant-loop-k l =
-    Leaves 8 l.marks.at l.spot.boxes l.initial.things l.initial.handed l.initial.k l.from l.things l.handed l.k
-
-abbrev pub decreases-loop-k : goal.decreases-loop-k
-decreases-loop-k l = l.k
+    Leaves 8 l.marks.at l.spot.boxes l.initial.things l.initial.handed l.left l.from l.things l.handed l.k

@@ -15,8 +15,8 @@ pub record Judging (s : List ℕ) (n : ℕ) (st : coded.Open) (at k : ℕ) : Typ
   pub numbered : k ≤ at + 1
   pub same : verdict_from n k at (meant st) (lines (drop at s)) ≡ verdict n s
 
-abbrev pub invariant-loop-at : goal.invariant-loop-at
-invariant-loop-at l = Judging l.reply l.n l.st l.at l.k
+abbrev pub invariant-loop-found : goal.invariant-loop-found
+invariant-loop-found l = Judging l.reply l.n l.st l.at l.k
 
-abbrev pub decreases-loop-at : goal.decreases-loop-at
-decreases-loop-at l = length l.reply - l.at
+abbrev pub decreases-loop-found : goal.decreases-loop-found
+decreases-loop-found l = length l.reply - l.at

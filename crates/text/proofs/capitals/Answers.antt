@@ -1,15 +1,9 @@
 -- `text::capitals` marks the digits from A to F. Assumes nothing.
 use mathlib.Core.Path.{refl}
-use Rattle.text.proofs.Ranges.{range_marks, sum_fits}
+use Rattle.text.proofs.Ranges.{range_marks}
 use Rattle.text.specs.Bytes.{byte}
 use Rattle.text.specs.Code.{capital}
 use Rattle.text.proofs.capitals.Goals as goal
-
-pub overflow_add-result : goal.overflow_add-result
-overflow_add-result c = record { fits = sum_fits c.args.w c.ranges.w.fits (byte "A") }
-
-pub overflow_add-result-2 : goal.overflow_add-result-2
-overflow_add-result-2 c = record { fits = sum_fits c.args.w c.ranges.w.fits (byte "G") }
 
 pub returns : goal.returns
 unfolding capital

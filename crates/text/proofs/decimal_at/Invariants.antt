@@ -1,11 +1,6 @@
 -- `text::decimal_at` reads digit after digit: what is read from here is the whole's. Assumes nothing.
-use lib.ListN.{length}
-use Prim.Native.Nat.{◌-◌}
 use Rattle.text.proofs.Decimals.{Reading}
 use Rattle.text.proofs.decimal_at.Given as goal
 
 abbrev pub invariant-loop-next : goal.invariant-loop-next
 invariant-loop-next l = Reading l.s l.at l.number l.next
-
-abbrev pub decreases-loop-next : goal.decreases-loop-next
-decreases-loop-next l = length l.s - l.next

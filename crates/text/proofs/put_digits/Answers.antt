@@ -2,13 +2,13 @@
 use lib.ListN.{length}
 use mathlib.Core.Path.{sym, ◌∙◌}
 use native.Mathlib.Omega.{arith}
-use Prim.Native.Nat.{ℕ, ◌+◌, ◌-◌, ◌≤◌, ◌<◌}
+use Prim.Native.Nat.{ℕ, ◌+◌, ◌≤◌}
 use Rattle.text.proofs.Digits.{length-hex}
-use Rattle.text.proofs.Put.{fitting, lacks, long, not_fitting, put_end, put_start, put_turn, suffices}
+use Rattle.text.proofs.Put.{fitting, lacks, not_fitting, put_end, put_start, put_turn, suffices}
 use mathlib.Core.Path.{ap}
 use mathlib.Core.Bool.{not}
 use Rattle.text.proofs.put_digits.Goals as goal
-use Rattle.text.proofs.put_digits.Goals.{Else-not-has_room, In-loop-left}
+use Rattle.text.proofs.put_digits.Goals.{Else-not-has_room}
 
 -- where there is room
 module _ (c : Else-not-has_room) where
@@ -21,13 +21,6 @@ module _ (c : Else-not-has_room) where
   room : at + n ≤ length c.args.buf.now
   room = suffices _ _ _ c.has_room.ensures (ap not c.if-not-has_room.false)
 
--- at the loop's head, with a digit still to put
-module _ (c : In-loop-left) where
-  within : c.args.at + (c.loop-left.left - 1) < length c.loop-left.buf
-  within =
-      let i = c.loop-left.invariant in
-      omega (arith, long i, i.fits, i.many, c.loop-left-test.true)
-
 pub returns-then-not-has_room : goal.returns-then-not-has_room
 returns-then-not-has_room c =
     let a = c.args in
@@ -37,14 +30,8 @@ returns-then-not-has_room c =
 pub loop-left-init : goal.loop-left-init
 loop-left-init c = put_start _ _ _ _ (room c)
 
-pub bounds-buf-at : goal.bounds-buf-at
-bounds-buf-at c = within (goal.at.bounds-buf-at c).In-loop-left
-
 pub loop-left-preserved : goal.loop-left-preserved
-loop-left-preserved c = put_turn c.loop-left.invariant _ _ (omega arith) c.low_digit-d.ensures
-
-pub shape_of-buf : goal.shape_of-buf
-shape_of-buf c = long c.loop-left.invariant
+loop-left-preserved c = put_turn c.loop-left.invariant _ _ (omega arith) c.low_digit.ensures
 
 pub returns : goal.returns
 returns c =

@@ -1,25 +1,12 @@
 -- `thing_text::put_thing`: the text, where the buffer has room for it. Assumes nothing.
-use Prim.Native.Nat.{ℕ}
-use mathlib.Core.List.{List}
-use lib.ListN.{length, take}
-use mathlib.Core.Path.{◌≡◌, sym, ap, ◌∙◌}
-use Rattle.thing_text.proofs.Bytes.{all_written, taken_fits, too_short}
-use Rattle.thing_text.specs.Code.{Reads, Words}
+use mathlib.Core.Path.{◌∙◌}
+use Rattle.thing_text.proofs.Bytes.{all_written, too_short}
 use Rattle.thing_text.proofs.put_thing.Goals as goal
 
-counted : {vs : List ℕ} {w : Words} → Reads vs w → w.count ≡ length (take w.count w.bytes)
-counted e = e.count ∙ ap length (sym e.bytes)
-
-pub returns-then-buf-n : goal.returns-then-buf-n
-returns-then-buf-n c = too_short _ _ _ c.words_of-words.ensures.count c.if-buf-n.true
-
-pub slice_bounds-bytes-end : goal.slice_bounds-bytes-end
-slice_bounds-bytes-end c = taken_fits _ _ (counted c.words_of-words.ensures)
-
-pub slice_bounds-put_bytes-end : goal.slice_bounds-put_bytes-end
-slice_bounds-put_bytes-end c = counted c.words_of-words.ensures
+pub returns-then-buf-bytes : goal.returns-then-buf-bytes
+returns-then-buf-bytes c =
+    too_short _ _ _ (c.as_slice-bytes.ensures ∙ c.words_of-words.ensures) c.if-buf-bytes.true
 
 pub returns : goal.returns
 returns c =
-    let told = c.words_of-words.ensures in
-    all_written _ _ _ _ _ told.count told.bytes c.if-buf-n.false c.put_bytes.ensures
+    all_written _ _ _ _ (c.as_slice-bytes.ensures ∙ c.words_of-words.ensures) c.if-buf-bytes.false c.put_bytes.ensures

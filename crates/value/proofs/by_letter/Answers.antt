@@ -6,9 +6,8 @@ use Rattle.prefix.specs.Prefix.{in_steps, prefix_of}
 use Rattle.text.proofs.Keys.{apart}
 use Rattle.text.specs.Bytes.{ascii, byte}
 use Rattle.value.proofs.Literals.{Power, by_power, no_letter, powers}
-use Rattle.value.specs.declared.Literal.{Literal}
 use Rattle.value.specs.declared.Value.TheVariants as Value
-use Rattle.value.specs.Literal.{lettered, over, times}
+use Rattle.value.specs.Literal.{reads, lettered, over, times}
 use Rattle.value.proofs.by_letter.Goals as goal
 use Rattle.value.proofs.by_letter.Goals.{Start}
 
@@ -28,21 +27,21 @@ module _ (c : Start) where
   by x e = ap (λ (b : ℕ). lettered z at (prefix_of b)) (sym e)
 
   is_over : {n bits : ℕ} → Power n bits
-      → Literal.Value (Value.Real (Ieee.div binary64 (of_int binary64 read) (of_bits binary64 bits))) (at + 1)
-      ≡ Literal.Value (Value.Real (over z n)) (at + 1)
+      → reads (Value.Real (Ieee.div binary64 (of_int binary64 read) (of_bits binary64 bits))) (at + 1)
+      ≡ reads (Value.Real (over z n)) (at + 1)
   unfolding over
   is_over p = by_power (Ieee.div binary64) z c.ranges.z (at + 1) p
 
   is_times : {n bits : ℕ} → Power n bits
-      → Literal.Value (Value.Real (Ieee.mul binary64 (of_int binary64 read) (of_bits binary64 bits))) (at + 1)
-      ≡ Literal.Value (Value.Real (times z n)) (at + 1)
+      → reads (Value.Real (Ieee.mul binary64 (of_int binary64 read) (of_bits binary64 bits))) (at + 1)
+      ≡ reads (Value.Real (times z n)) (at + 1)
   unfolding times
   is_times p = by_power (Ieee.mul binary64) z c.ranges.z (at + 1) p
 
 pub returns-in-105 : goal.returns-in-105
 unfolding lettered prefix_of in_steps
 returns-in-105 c =
-    ap (λ (x : ℤ). Literal.Value (Value.Whole x) (c.args.at + 1)) (to_z-of_z c.ranges.z)
+    ap (λ (x : ℤ). reads (Value.Whole x) (c.args.at + 1)) (to_z-of_z c.ranges.z)
     ∙ by (goal.at.returns-in-105 c).Start (byte "i") c.in-105.is
 
 pub returns-in-97 : goal.returns-in-97

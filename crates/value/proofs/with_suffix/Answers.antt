@@ -3,15 +3,14 @@ use Rattle.std.proofs.Common.{get_or, ℤ, ap, ◌∙◌, to_z-of_z, rules}
 use lib.Ieee.{binary64, of_int}
 use Rattle.prefix.specs.Prefix.{prefix_of}
 use Rattle.value.proofs.Literals.{at_end_lem, more_letters, one_letter}
-use Rattle.value.specs.declared.Literal.TheVariants as Literal
 use Rattle.value.specs.declared.Value.TheVariants as Value
-use Rattle.value.specs.Literal.{lettered, plain}
+use Rattle.value.specs.Literal.{reads, lettered, plain}
 use Rattle.value.proofs.with_suffix.Goals as goal
 
 pub returns-then-n-i : goal.returns-then-n-i
 unfolding plain
 returns-then-n-i c =
-    ap (λ (x : ℤ). Literal.Value (Value.Real (of_int binary64 x)) c.args.i) (to_z-of_z c.ranges.z)
+    ap (λ (x : ℤ). reads (Value.Real (of_int binary64 x)) c.args.i) (to_z-of_z c.ranges.z)
     ∙ at_end_lem c.args.z c.args.s.now c.args.i (search rules)
 
 pub returns-then-n-i-eq1 : goal.returns-then-n-i-eq1

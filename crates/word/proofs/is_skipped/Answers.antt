@@ -1,8 +1,13 @@
+use lib.Dec.{eqb}
+use mathlib.Core.Path.{◌∙◌, ap}
+use Prim.Native.Nat.{ℕ}
 use Rattle.word.proofs.Runs as L
 use Rattle.word.proofs.is_skipped.Goals as goal
 
-pub returns-then-at-line : goal.returns-then-at-line
-returns-then-at-line c = L.skip_some _ _ c.run_from-at.ensures c.if-at-line.true
+pub returns-in-Some : goal.returns-in-Some
+returns-in-Some c =
+    ap (λ (x : ℕ). eqb x 35) (c.in-Some.ensures.lookup.3.1 0)
+    ∙ L.skip_some _ _ c.run_from-at.ensures c.in-Some.ensures.lookup.3.0
 
-pub returns-else-at-line : goal.returns-else-at-line
-returns-else-at-line c = L.skip_none _ _ c.run_from-at.ensures c.if-at-line.false
+pub returns-in-None : goal.returns-in-None
+returns-in-None c = L.skip_none _ _ c.run_from-at.ensures c.in-None.ensures.lookup.3

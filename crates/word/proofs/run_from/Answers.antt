@@ -1,6 +1,7 @@
 -- `word::run_from` goes byte by byte. Assumes nothing.
 use mathlib.Core.Path.{refl, sym, ◌∙◌}
-use Rattle.word.proofs.Runs.{goes_on, stops, ends}
+use native.Mathlib.Omega.{arith}
+use Rattle.word.proofs.Runs.{goes_on, stops, at_end}
 use Rattle.word.proofs.run_from.Goals as goal
 
 pub loop-i-init : goal.loop-i-init
@@ -8,13 +9,11 @@ loop-i-init c = record { same = refl }
 
 pub returns-then-not-of_class : goal.returns-then-not-of_class
 returns-then-not-of_class c =
-    stops c.loop-i.invariant c.loop-i-test.true
-    (sym c.of_class.ensures ∙ c.if-not-of_class.true)
+    stops c.loop-i.invariant (omega arith) (sym c.of_class.ensures ∙ c.if-not-of_class.true)
 
 pub loop-i-preserved : goal.loop-i-preserved
 loop-i-preserved c =
-    goes_on c.loop-i.invariant c.loop-i-test.true
-    (sym c.of_class.ensures ∙ c.if-not-of_class.false)
+    goes_on c.loop-i.invariant (omega arith) (sym c.of_class.ensures ∙ c.if-not-of_class.false)
 
 pub returns : goal.returns
-returns c = ends c.loop-i.invariant c.loop-i-test.false
+returns c = at_end c.loop-i.invariant c.max.ensures c.loop-i-test.false c.loop-i.auto.i-end

@@ -1,4 +1,4 @@
 use Rattle.capi.proofs.frames.refused.Goals as goal
 
 pub returns : goal.returns
-returns c = rw c.number-result.ensures
+returns c = rw c.from.ensures

@@ -3,4 +3,4 @@ use Rattle.capi.proofs.replies.row_told.Goals as goal
 
 pub returns : goal.returns
 unfolding row_fields
-returns c = rw c.letter-letter.ensures
+returns c = rw c.from.ensures

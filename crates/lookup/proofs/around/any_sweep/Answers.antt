@@ -1,12 +1,11 @@
 -- `any_sweep` walks the open boxes from the innermost outwards, and stops at a measuring loop. Assumes nothing.
 use mathlib.Core.Path.{sym, ◌∙◌}
-use Rattle.laws.proofs.Least.{least_most}
-use Rattle.lookup.proofs.Walks.{walk_starts, walk_stops, walk_on, walk_ends}
+use Rattle.lookup.proofs.Walks.{walk_row, walk_stops, walk_on, walk_ends}
 use Rattle.lookup.proofs.around.any_sweep.Goals as goal
 
 pub loop-k-init : goal.loop-k-init
 loop-k-init c =
-    walk_starts _ _ (rw c.at_most-k.ensures (least_most c.args.s.depth 8)) (sym c.at_most-k.ensures)
+    walk_row c.args.s.depth _ c.min-k.ensures
 
 pub returns-then-sweep_at : goal.returns-then-sweep_at
 returns-then-sweep_at c =

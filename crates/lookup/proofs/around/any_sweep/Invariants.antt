@@ -6,6 +6,3 @@ use Rattle.lookup.proofs.around.any_sweep.Given as goal
 
 abbrev pub invariant-loop-k : goal.invariant-loop-k
 invariant-loop-k l = Walk (sweeps l.marks.at) l.s.boxes (least l.s.depth 8) l.k
-
-abbrev pub decreases-loop-k : goal.decreases-loop-k
-decreases-loop-k l = l.k

@@ -7,7 +7,7 @@ use mathlib.Core.Bool.{not}
 use Rattle.lookup.proofs.shape.opens_ok.Goals as goal
 
 pub loop-k-init : goal.loop-k-init
-loop-k-init c = walk_starts _ _ c.requires refl
+loop-k-init c = walk_starts _ c.requires
 
 pub returns-then-not-box_ok : goal.returns-then-not-box_ok
 returns-then-not-box_ok c =

@@ -5,6 +5,3 @@ use Rattle.lookup.proofs.shape.opens_ok.Given as goal
 
 abbrev pub invariant-loop-k : goal.invariant-loop-k
 invariant-loop-k l = Walk (opens_in l.marks.at l.n) l.m.boxes l.m.depth l.k
-
-abbrev pub decreases-loop-k : goal.decreases-loop-k
-decreases-loop-k l = l.k

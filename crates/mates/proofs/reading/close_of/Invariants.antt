@@ -6,6 +6,3 @@ use Rattle.mates.proofs.reading.close_of.Given as goal
 
 abbrev pub invariant-loop-j : goal.invariant-loop-j
 invariant-loop-j l = close_in l.marks.at l.p ≡ close_within l.marks.at l.p l.j (128 - l.j)
-
-abbrev pub decreases-loop-j : goal.decreases-loop-j
-decreases-loop-j l = 128 - l.j
