@@ -38,6 +38,19 @@ impl<P: Print> Write for Buffered<'_, P> {
         Ok(n)
     }
 
+    // Most pieces are a few bytes long and have room. One that has none goes out behind what is kept.
+    fn write_all(&mut self, bytes: &[u8]) -> io::Result<()> {
+        let size = self.size;
+        if ROOM - size < bytes.len() {
+            self.flush()?;
+            return self.to.write_all(bytes);
+        }
+        let end = size + bytes.len();
+        self.bytes[size..end].copy_from_slice(bytes);
+        self.size = end;
+        Ok(())
+    }
+
     fn flush(&mut self) -> io::Result<()> {
         self.to.write_all(&self.bytes[..self.size])?;
         self.size = 0;

@@ -1,5 +1,6 @@
 // Reads from a case. Every function reads what stands at the front of a text, and none can fail: what is not there is
 // read as 0, or as no text.
+ghost use Rattle.std.specs.Prelude.{◌≡◌, ◌-◌, ◌≤◌, drop, length, take};
 ghost use Rattle.io.specs.Counts.{IsPrefixLen};
 
 use value::Value;
@@ -12,12 +13,16 @@ const INFINITE: u64 = 0x7FF0000000000000;
 // ---- places
 
 // What stands behind so many bytes.
-pub fn past(s: &[u8], n: usize) -> &[u8] {
+pub fn past(s: &[u8], n: usize) -> &[u8]
+    ensures { result.now ≡ drop n s.now }
+{
     s.get(n..).unwrap_or(&[])
 }
 
 // What stands behind the next byte c.
-pub fn behind(s: &[u8], c: u8) -> &[u8] {
+pub fn behind(s: &[u8], c: u8) -> &[u8]
+    ensures { result.now ≡ drop (length s.now - length result.now) s.now }
+{
     match s.iter().position(|byte| *byte == c) {
         Some(i) => &s[i + 1..],
         None => &[],
@@ -25,7 +30,9 @@ pub fn behind(s: &[u8], c: u8) -> &[u8] {
 }
 
 // What stands in front of the next byte c; all where there is none.
-pub fn before(s: &[u8], c: u8) -> &[u8] {
+pub fn before(s: &[u8], c: u8) -> &[u8]
+    ensures { result.now ≡ take (length result.now) s.now }
+{
     match s.iter().position(|byte| *byte == c) {
         Some(i) => &s[..i],
         None => s,
@@ -33,7 +40,9 @@ pub fn before(s: &[u8], c: u8) -> &[u8] {
 }
 
 // The first n, all of them at most.
-pub fn first<T>(s: &[T], n: usize) -> &[T] {
+pub fn first<T>(s: &[T], n: usize) -> &[T]
+    ensures { result.now ≡ take n s.now }
+{
     s.get(..n).unwrap_or(s)
 }
 
@@ -51,7 +60,9 @@ impl<'a> Words<'a> {
 }
 
 // The text behind the key, from the first line on that begins with it.
-pub fn find<'a>(case: &'a [u8], key: &[u8]) -> &'a [u8] {
+pub fn find<'a>(case: &'a [u8], key: &[u8]) -> &'a [u8]
+    ensures { result.now ≡ drop (length case.now - length result.now) case.now }
+{
     let mut rest = case;
     for _ in 0..case.len() {
         if let Some(value) = rest.strip_prefix(key) {
@@ -103,7 +114,9 @@ fn bytes(digits: &[u8], to: &mut [u8]) -> usize
 }
 
 // The bytes of a key, in the buffer that is lent, as far as it goes.
-pub fn bytes_of<'a>(case: &[u8], key: &[u8], to: &'a mut [u8]) -> &'a [u8] {
+pub fn bytes_of<'a>(case: &[u8], key: &[u8], to: &'a mut [u8]) -> &'a [u8]
+    ensures { length result.now ≤ length to.old }
+{
     let n = bytes(find(case, key), to);
     &to[..n]
 }

@@ -58,7 +58,7 @@ pub fn run(text: &[u8], table: Table, state: State, steps: Steps, budget: usize)
         tag,
         sound,
     } = lookup::survey_of(text.len(), &table);
-    let shaped = sound & lookup::state_ok(marks, count, state);
+    let shaped = sound & lookup::state_ok(&marks, count, state);
     let mut answers = [Said {
         answer: Answer::Running,
         things: 0,
@@ -81,7 +81,7 @@ pub fn run(text: &[u8], table: Table, state: State, steps: Steps, budget: usize)
         while effect::tries_on(found, j, count) {
             let x = table.items[j].item;
             let tested = lookup::cells_at(x, &vars);
-            found = lookup::try_at(marks, x, tested, at, j);
+            found = lookup::try_at(&marks, x, tested, at, j);
             j += 1;
         }
         let looked = Looked {
@@ -90,7 +90,7 @@ pub fn run(text: &[u8], table: Table, state: State, steps: Steps, budget: usize)
             chosen: effect::chosen_by(found),
             tag,
             count,
-            around: lookup::around_of(marks, spot, item),
+            around: lookup::around_of(&marks, spot, item),
         };
         let e = effect::effect_of(shaped, spot, status, looked, told.control, told.offer);
         lookup::put(&mut vars, e.first);
@@ -100,7 +100,7 @@ pub fn run(text: &[u8], table: Table, state: State, steps: Steps, budget: usize)
         handed = lookup::lay(&mut things, handed, e.two);
         let left = effect::boxes_left(e.leaves, spot.depth, handed - from);
         for k in (0..left).rev() {
-            let w = lookup::leave_mark(marks, spot.boxes[k]);
+            let w = lookup::leave_mark(&marks, spot.boxes[k]);
             handed = lookup::lay(&mut things, handed, w);
         }
         answers[i] = Said {

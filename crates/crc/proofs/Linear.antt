@@ -1,17 +1,41 @@
 -- The register's shift is linear, so a table serves it; and it stays below 2 ^ 16. Assumes nothing.
 use borrow.Author.Tests.{le-leb, lt-leb}
 use Rattle.std.specs.Int.Bits.{xor_assoc}
-use lib.Bits.{bit_xor, xor_block, xor_comm, xor_lt, xor_mod, xor_shifted, xor_shr, xor_zero_r}
+use lib.Bits.{bit_xor, differ, xor_block, xor_comm, xor_lt, xor_mod, xor_shifted, xor_shr, xor_step, xor_zero_r}
 use lib.Dec.{leb}
 use lib.Pow.{pow_pos}
 use mathlib.Core.Bool.{Bool, true, false, cond}
 use mathlib.Core.List.{List, [], ◌∷◌}
-use mathlib.Core.Path.{◌≡◌, sym, ◌∙◌, ap, ap₂}
+use mathlib.Core.Path.{◌≡◌, refl, sym, ◌∙◌, ap, ap₂}
 use native.Mathlib.Decide.{dec_le}
 use native.Mathlib.Nat.{mul_assoc, mul_comm, pow-suc, mul-le-mul_left, mul-one, add-zero}
 use native.Mathlib.Omega.{arith}
 use Prim.Native.Nat.{ℕ, zero, suc, ◌+◌, ◌*◌, ◌/◌, ◌%◌, ◌^◌, ◌≤◌, ◌<◌}
 use Rattle.crc.specs.Crc.{moved, shift, shifts, step, crc_from}
+
+-- ---- exclusive or, bit by bit
+
+differ_lt : (x y : ℕ) → x < 2 → y < 2 → differ x y < 2
+differ_lt zero y h k = k
+differ_lt (suc x) zero h k = h
+differ_lt (suc zero) (suc zero) h k = omega arith
+differ_lt (suc zero) (suc (suc y)) h k = absurd (omega arith)
+differ_lt (suc (suc x)) (suc y) h k = absurd (omega arith)
+
+differ_assoc : (x y z : ℕ) → x < 2 → y < 2 → z < 2 → differ (differ x y) z ≡ differ x (differ y z)
+differ_assoc zero y z a b d = refl
+differ_assoc (suc x) zero z a b d = refl
+differ_assoc (suc zero) (suc zero) zero a b d = refl
+differ_assoc (suc zero) (suc zero) (suc zero) a b d = refl
+differ_assoc (suc zero) (suc zero) (suc (suc z)) a b d = absurd (omega arith)
+differ_assoc (suc zero) (suc (suc y)) z a b d = absurd (omega arith)
+differ_assoc (suc (suc x)) (suc y) z a b d = absurd (omega arith)
+
+xor_odd : (a b : ℕ) → bit_xor a b % 2 ≡ differ (a % 2) (b % 2)
+xor_odd a b =
+    let e : bit_xor a b ≡ bit_xor (a / 2) (b / 2) * 2 + differ (a % 2) (b % 2) = xor_step a b in
+    let h : differ (a % 2) (b % 2) < 2 = differ_lt (a % 2) (b % 2) (omega arith) (omega arith) in
+    omega arith
 
 -- ---- the shift is linear in what it does not throw out
 

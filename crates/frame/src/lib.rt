@@ -129,8 +129,15 @@ fn right_crc(line: &[u8], k: usize) -> bool
     requires { k + 6 ≤ length line.now }
     ensures { result ≡ right_crc line.now k }
 {
+    if has_newline(line) {
+        return false;
+    }
     let m = k + NUMBER_DIGITS;
-    !has_newline(line) && text::hex_at(line, m, CRC_DIGITS) == Some(crc::crc16(&line[..m]) as u32)
+    // The sum is taken only where it has digits to be compared with.
+    match text::hex_at(line, m, CRC_DIGITS) {
+        Some(v) => v == crc::crc16(&line[..m]) as u32,
+        None => false,
+    }
 }
 
 #[tactic(auto, unfolding(crate::specs::Frame::right_number))]

@@ -5,10 +5,11 @@ use mathlib.Core.Bool.{Bool, true, false, ◌&&◌, cond}
 use mathlib.Core.List.{List, [], ◌∷◌, ◌++◌, append_assoc, append-nil}
 use native.Mathlib.Numerals.{add-one}
 use native.Mathlib.Omega.{arith}
-use lib.Dec.{eqb}
+use lib.Dec.{eqb, ltb}
 use lib.ListN.{length, get_or, set, take, drop, replicate, length-set, length-append}
 use lib.Seq.{take-suc-set, drop-set-lt}
-use borrow.Author.Tests.{eqb-true, le-leb}
+use borrow.Author.Tests.{eqb-true, le-leb, lt-ltb, le-ltb}
+use Rattle.std.proofs.lemmas.List.{set_past}
 use Rattle.laws.specs.Least.{least}
 use Rattle.laws.proofs.Lists.{drop-step}
 use Rattle.table.specs.declared.Item.{Item}
@@ -33,6 +34,13 @@ pub record Laid (n : ℕ) (hs : List What) (h : ℕ) (os : List Out) : Type 0 wh
   pub wide : length hs ≡ n
   pub taken : take h (outs_of hs) ≡ os
   pub blank : drop h (outs_of hs) ≡ replicate (n - h) nought
+
+-- a full row, in which nothing is laid
+pub stays_full : (hs : List What) (n : ℕ) (v : What) → length hs ≤ n → Lays hs n v hs n
+stays_full hs n v h = record {
+  laid = sym (set_past hs n v h);
+  counted = rw (le-ltb n (length hs) h) (omega arith);
+}
 
 set_front : {A : Type 0} (l : List A) (h : ℕ) (x : A) (r : List A) → drop h l ≡ x ∷ r → set l h x ≡ l
 set_front [] h x r e = refl
@@ -211,22 +219,30 @@ pub record Begun (n : ℕ) (hs₀ : List What) (h₀ : ℕ) (e : Effect) (hs : L
   pub laid : Laid n hs h ((take h₀ (outs_of hs₀) ++ handed e.one) ++ handed e.two)
   pub counted : h ≡ (h₀ + count_of e.one) + count_of e.two
 
+-- where there is room, the count is that of the thing
+counted_in : {hs : List What} {h : ℕ} {v : What} {hs' : List What} {h' : ℕ} → h < length hs → Lays hs h v hs' h'
+    → h' ≡ h + count_of v
+counted_in {hs} {h} {v} q l =
+    l.counted ∙ ap (λ (b : Bool). h + cond b (count_of v) 0) (lt-ltb h (length hs) q)
+
 lay_by : {n : ℕ} {hs : List What} {h : ℕ} {os : List Out} {v : What} {hs' : List What} {h' : ℕ} → Laid n hs h os
     → h < n → Lays hs h v hs' h'
     → Laid n hs' h' (os ++ handed v)
-lay_by {v = v} w q l = rw (l.laid, l.counted) (lay w q v (count_of v) refl)
+lay_by {v = v} w q l = rw (l.laid, counted_in (rw w.wide q) l) (lay w q v (count_of v) refl)
 
 -- one behind the other
 pub two_laid : {n h₀ h₁ h₂ : ℕ} {hs₀ hs₁ hs₂ : List What} {e : Effect} → Ready n hs₀ h₀ → Lays hs₀ h₀ e.one hs₁ h₁
     → Lays hs₁ h₁ e.two hs₂ h₂
     → Begun n hs₀ h₀ e hs₂ h₂
-two_laid {e = e} w a b =
+two_laid {n} {h₀} {h₁} {h₂} {hs₀} {hs₁} {hs₂} {e} w a b =
+    let room : h₀ < n = omega (arith, w.room) in
+    let first : h₁ ≡ h₀ + count_of e.one = counted_in (rw w.laid.wide room) a in
+    let one = lay_by w.laid room a in
+    let more : h₁ < n = omega (arith, w.room, first, count_one e.one) in
     record {
       room = w.room;
-      laid =
-          lay_by (lay_by w.laid (omega (arith, w.room)) a)
-          (omega (arith, w.room, a.counted, count_one e.one)) b;
-      counted = b.counted ∙ ap (λ (k : ℕ). k + count_of e.two) a.counted;
+      laid = lay_by one more b;
+      counted = counted_in (rw one.wide more) b ∙ ap (λ (k : ℕ). k + count_of e.two) first;
     }
 
 -- k boxes are still to be left, of k₀ at the start, when h₀ things stood in hs₀; the turn began with `from` things
@@ -267,7 +283,7 @@ module _ {n : ℕ} {ms : List Mark} {l : List ℕ} {hs₀ : List What} {h₀ k�
   pub leaves_on : {v : What} {hs' : List What} {h' : ℕ} → 0 < k → v ≡ leave_of ms (get_or l (k - 1) 0)
       → Lays hs h v hs' h'
       → Leaves n ms l hs₀ h₀ k₀ from hs' h' (k - 1)
-  leaves_on {v} q f x = rw (x.laid, x.counted) (leaves_one v q f)
+  leaves_on {v} q f x = rw (x.laid, counted_in (rw w.laid.wide (leaves_room q)) x) (leaves_one v q f)
 
 module _ {n : ℕ} {hs₀ : List What} {h₀ : ℕ} {e : Effect} {hs : List What} {h : ℕ} (w : Begun n hs₀ h₀ e hs h)
     (s : Spot) {k : ℕ} (q : k ≡ effects.boxes_left e.leaves s.depth (h - h₀))

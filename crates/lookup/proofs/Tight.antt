@@ -5,6 +5,7 @@ use mathlib.Core.Bool.{Bool, true, false}
 use mathlib.Core.List.{List}
 use mathlib.Core.Path.{◌≡◌, refl, sym, ap, ◌∙◌}
 use lib.ListN.{length}
+use Rattle.laws.specs.Least.{least}
 use Rattle.table.specs.declared.Item.{Item}
 use Rattle.table.specs.declared.Table.{Table}
 use Rattle.table.specs.Shape.{items_of}
@@ -24,6 +25,9 @@ use Rattle.lookup.specs.declared.Survey.{Survey}
 use Rattle.lookup.specs.Lookup.{sizes_ok, Surveys, state_in, spot_of, cells_at, Lays, leave_of, around_in, tried_in}
 
 -- ---- the state's parts
+
+pub only_at_most : (n most r r' : ℕ) → r ≡ least n most → r' ≡ least n most → r ≡ r'
+only_at_most n most r r' e f = e ∙ sym f
 
 pub only_spot_of : (m : coded.State) (r r' : Spot) → r ≡ spot_of m → r' ≡ spot_of m → r ≡ r'
 only_spot_of m r r' e f = e ∙ sym f

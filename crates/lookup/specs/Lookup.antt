@@ -94,10 +94,10 @@ cells_at x vars =
     operands.cells_of o (cell_at vars (operands.place_of o.a)) (cell_at vars (operands.place_of o.b))
     (cell_at vars (operands.place_of o.c)) (cell_at vars (operands.place_of o.d))
 
--- a thing is laid behind the n that stand in a row
+-- a thing is laid behind the n that stand in a row, and counted if it is one; a full row stays as it is
 pub record Lays (things : List What) (n : ℕ) (w : What) (after : List What) (count : ℕ) : Type 0 where
   pub laid : after ≡ set things n w
-  pub counted : count ≡ n + count_of w
+  pub counted : count ≡ n + cond (ltb n (length things)) (count_of w) 0
 
 -- ---- around an item
 

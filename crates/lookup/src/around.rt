@@ -11,8 +11,8 @@ use state::{BOXES, LoopSort, What};
 use table::Item;
 
 // Whether a measuring loop is open.
-fn any_sweep(marks: Marks, s: Spot) -> bool
-    ensures { result ≡ sweeps marks.at (held_in s) }
+fn any_sweep(marks: &Marks, s: Spot) -> bool
+    ensures { result ≡ sweeps marks.now.at (held_in s) }
 {
     for k in (0..s.depth.min(BOXES)).rev() {
         if mates::sweep_at(marks, s.boxes[k]) {
@@ -23,8 +23,8 @@ fn any_sweep(marks: Marks, s: Spot) -> bool
 }
 
 // The place of the innermost open loop in the row of boxes.
-fn loop_depth(marks: Marks, s: Spot) -> Option<usize>
-    ensures { (up_to result ≤ 8) × (to_loop marks.at (held_in s) ≡ tops s.boxes (up_to result)) }
+fn loop_depth(marks: &Marks, s: Spot) -> Option<usize>
+    ensures { (up_to result ≤ 8) × (to_loop marks.now.at (held_in s) ≡ tops s.boxes (up_to result)) }
 {
     for k in (0..s.depth.min(BOXES)).rev() {
         if mates::loop_at(marks, s.boxes[k]) {
@@ -36,8 +36,8 @@ fn loop_depth(marks: Marks, s: Spot) -> Option<usize>
 
 // The mark that leaving the box at p hands out, where it is a loop's.
 #[tactic(auto, unfolding(crate::specs::Lookup::leave_of))]
-pub fn leave_mark(marks: Marks, p: usize) -> What
-    ensures { result ≡ leave_of marks.at p }
+pub fn leave_mark(marks: &Marks, p: usize) -> What
+    ensures { result ≡ leave_of marks.now.at p }
 {
     if mates::sweep_at(marks, p) {
         return What::Leave(LoopSort::Sweep);
@@ -62,8 +62,8 @@ fn around_none(sweeping: bool, stray: bool) -> Around
 }
 
 #[tactic(auto, using(mates::proofs::Placed::behinds))]
-fn around_open(marks: Marks, sweeping: bool, s: Spot) -> Around
-    ensures { result ≡ around_open marks.at sweeping s.at }
+fn around_open(marks: &Marks, sweeping: bool, s: Spot) -> Around
+    ensures { result ≡ around_open marks.now.at sweeping s.at }
 {
     let close = mates::close_of(marks, s.at);
     Around {
@@ -74,8 +74,8 @@ fn around_open(marks: Marks, sweeping: bool, s: Spot) -> Around
 
 // Around a branch or closing mark.
 #[tactic(auto, using(mates::proofs::Placed::behinds))]
-fn around_mark(marks: Marks, sweeping: bool, s: Spot) -> Around
-    ensures { result ≡ around_mark marks.at sweeping s.at (held_in s) }
+fn around_mark(marks: &Marks, sweeping: bool, s: Spot) -> Around
+    ensures { result ≡ around_mark marks.now.at sweeping s.at (held_in s) }
 {
     let d = s.depth.min(BOXES);
     if d == 0 {
@@ -90,8 +90,8 @@ fn around_mark(marks: Marks, sweeping: bool, s: Spot) -> Around
 }
 
 #[tactic(auto, using(mates::proofs::Placed::behinds))]
-fn around_break(marks: Marks, sweeping: bool, s: Spot) -> Around
-    ensures { result ≡ around_break marks.at sweeping (to_loop marks.at (held_in s)) }
+fn around_break(marks: &Marks, sweeping: bool, s: Spot) -> Around
+    ensures { result ≡ around_break marks.now.at sweeping (to_loop marks.now.at (held_in s)) }
 {
     match loop_depth(marks, s) {
         Some(k) => Around {
@@ -106,8 +106,8 @@ fn around_break(marks: Marks, sweeping: bool, s: Spot) -> Around
 
 // What the marks say around the item x, where the run stands at it.
 #[tactic(auto, unfolding(crate::specs::Lookup::around_in))]
-pub fn around_of(marks: Marks, s: Spot, x: Item) -> Around
-    ensures { result ≡ around_in marks.at s x }
+pub fn around_of(marks: &Marks, s: Spot, x: Item) -> Around
+    ensures { result ≡ around_in marks.now.at s x }
 {
     let sweeping = any_sweep(marks, s);
     match x {
@@ -120,8 +120,8 @@ pub fn around_of(marks: Marks, s: Spot, x: Item) -> Around
 
 // What the item x at j leads to, tried where it belongs to the box that opens at p.
 #[tactic(auto, unfolding(crate::specs::Lookup::tried_in))]
-pub fn try_at(marks: Marks, x: Item, k: Cells, p: usize, j: usize) -> Option<Chosen>
-    ensures { result ≡ tried_in marks.at x k p j }
+pub fn try_at(marks: &Marks, x: Item, k: Cells, p: usize, j: usize) -> Option<Chosen>
+    ensures { result ≡ tried_in marks.now.at x k p j }
 {
     if mates::belongs_to(marks, j, p) {
         return effect::try_mate(x, k, j);

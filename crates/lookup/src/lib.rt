@@ -3,7 +3,7 @@
 
 pub use around::{around_of, leave_mark, try_at};
 use mates::Marks;
-pub use pieces::{cells_at, lay, put, spot_of, state_after, things_in};
+pub use pieces::{at_most, cells_at, lay, put, spot_of, state_after, things_in};
 pub use shape::{sizes_ok, state_ok, survey_of};
 
 mod around;

@@ -1,5 +1,6 @@
 // The state's parts: where it stands, what is put together after steps, and how many there are of something.
-ghost use Rattle.std.specs.Prelude.{◌≡◌, ◌<◌, length};
+ghost use Rattle.std.specs.Prelude.{◌≡◌};
+ghost use Rattle.laws.specs.Least.{least};
 ghost use Rattle.steps.specs.Code.{count_of, wrote, LeftAs};
 ghost use Rattle.lookup.specs.Lookup.{spot_of, cells_at, Lays};
 
@@ -7,6 +8,14 @@ use effect::Spot;
 use operands::{Cells, Four, Written};
 use state::{Cell, State, Status, What};
 use table::Item;
+
+// The lesser of the two.
+#[tactic(auto, using(laws::proofs::Least::least_min))]
+pub fn at_most(n: usize, most: usize) -> usize
+    ensures { result ≡ least n most }
+{
+    n.min(most)
+}
 
 // Where the run of a state stands. It is no `From`, which would have to stand in `effect`, away from its way back.
 pub fn spot_of(m: State) -> Spot
@@ -77,11 +86,14 @@ pub fn put(vars: &mut [Cell; 32], w: Written)
     vars[p] = operands::write_over(w, vars[p]);
 }
 
-// Lays a thing behind the n that stand in the row, and says how many stand there then.
+// Lays a thing behind the n that stand in the row, and says how many stand there then. A row that is full stays.
 pub fn lay(things: &mut [What], n: usize, w: What) -> usize
-    requires { n < length things.old }
     ensures { Lays things.old n w things.new result }
 {
-    things[n] = w;
-    n + things_in(w)
+    if n < things.len() {
+        things[n] = w;
+        n + things_in(w)
+    } else {
+        n
+    }
 }

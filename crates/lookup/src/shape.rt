@@ -3,7 +3,7 @@ ghost use Rattle.std.specs.Prelude.{◌≡◌, ◌≤◌};
 ghost use Rattle.state.specs.Meaning.{tops};
 ghost use Rattle.lookup.specs.Lookup.{box_in, opens_in, state_in, sizes_ok, Surveys};
 
-use super::Survey;
+use super::{Survey, at_most};
 use mates::{Marks, Role};
 use state::{BOXES, State};
 use table::{ITEMS, NAMES, Table};
@@ -17,15 +17,15 @@ pub fn sizes_ok(items: usize, names: usize) -> bool
 
 // A box at an opening item, one of n, with a closing mate.
 #[tactic(auto, using(mates::proofs::Placed::behinds))]
-fn box_ok(marks: Marks, n: usize, p: usize) -> bool
-    ensures { result ≡ box_in marks.at n p }
+fn box_ok(marks: &Marks, n: usize, p: usize) -> bool
+    ensures { result ≡ box_in marks.now.at n p }
 {
     p < n && mates::open_at(marks, p) && mates::close_of(marks, p).is_some()
 }
 
-fn opens_ok(marks: Marks, n: usize, m: State) -> bool
+fn opens_ok(marks: &Marks, n: usize, m: State) -> bool
     requires { m.depth ≤ 8 }
-    ensures { result ≡ opens_in marks.at n (tops m.boxes m.depth) }
+    ensures { result ≡ opens_in marks.now.at n (tops m.boxes m.depth) }
 {
     for k in (0..m.depth).rev() {
         if !box_ok(marks, n, m.boxes[k]) {
@@ -37,8 +37,8 @@ fn opens_ok(marks: Marks, n: usize, m: State) -> bool
 
 // Whether the state is in shape, for a text of n items.
 #[tactic(auto, unfolding(crate::specs::Lookup::state_in))]
-pub fn state_ok(marks: Marks, n: usize, m: State) -> bool
-    ensures { result ≡ state_in marks.at n m }
+pub fn state_ok(marks: &Marks, n: usize, m: State) -> bool
+    ensures { result ≡ state_in marks.now.at n m }
 {
     m.at <= n && m.depth <= BOXES && opens_ok(marks, n, m) && state::cells_ok(m)
 }
@@ -47,7 +47,7 @@ pub fn state_ok(marks: Marks, n: usize, m: State) -> bool
 pub fn survey_of(size: usize, table: &Table) -> Survey
     ensures { Surveys size table.now result }
 {
-    let count = table.count.min(ITEMS);
+    let count = at_most(table.count, ITEMS);
     let mut sound = sizes_ok(table.count, table.names);
     let mut roles = [Role::Tag; ITEMS];
     for m in 0..count {
@@ -59,7 +59,7 @@ pub fn survey_of(size: usize, table: &Table) -> Survey
     Survey {
         count,
         marks,
-        tag: mates::first_tag(marks, count),
+        tag: mates::first_tag(&marks, count),
         sound,
     }
 }

@@ -22,7 +22,7 @@ pub fn step(text: &[u8], table: Table, state: State, control: Control, offer: Of
         tag,
         sound,
     } = lookup::survey_of(text.len(), &table);
-    let shaped = sound & lookup::state_ok(marks, count, state);
+    let shaped = sound & lookup::state_ok(&marks, count, state);
     let mut vars = state.vars;
     let spot = lookup::spot_of(state);
     let status = state.status;
@@ -36,7 +36,7 @@ pub fn step(text: &[u8], table: Table, state: State, control: Control, offer: Of
     while effect::tries_on(found, j, count) {
         let x = table.items[j].item;
         let tested = lookup::cells_at(x, &vars);
-        found = lookup::try_at(marks, x, tested, at, j);
+        found = lookup::try_at(&marks, x, tested, at, j);
         j += 1;
     }
     let looked = Looked {
@@ -45,7 +45,7 @@ pub fn step(text: &[u8], table: Table, state: State, control: Control, offer: Of
         chosen: effect::chosen_by(found),
         tag,
         count,
-        around: lookup::around_of(marks, spot, item),
+        around: lookup::around_of(&marks, spot, item),
     };
     let e = effect::effect_of(shaped, spot, status, looked, control, offer);
     lookup::put(&mut vars, e.first);
@@ -57,7 +57,7 @@ pub fn step(text: &[u8], table: Table, state: State, control: Control, offer: Of
     handed = lookup::lay(&mut things, handed, e.two);
     let left = effect::boxes_left(e.leaves, spot.depth, handed - from);
     for k in (0..left).rev() {
-        let w = lookup::leave_mark(marks, spot.boxes[k]);
+        let w = lookup::leave_mark(&marks, spot.boxes[k]);
         handed = lookup::lay(&mut things, handed, w);
     }
     let stayed = state::stays(status, e.answer);

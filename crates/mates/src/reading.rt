@@ -7,32 +7,32 @@ ghost use Rattle.mates.specs.Code.{no_mark, always, opens_at, belongs_with, belo
 use super::{Mark, Marks, NO_MARK, Role};
 use table::{ITEMS, Sort};
 
-fn mark_at(marks: Marks, p: usize) -> Mark
-    ensures { result ≡ get_or marks.at p no_mark }
+fn mark_at(marks: &Marks, p: usize) -> Mark
+    ensures { result ≡ get_or marks.now.at p no_mark }
 {
     marks.at.get(p).copied().unwrap_or(NO_MARK)
 }
 
 // Whether a measuring loop opens at an item.
 #[tactic(auto, unfolding(crate::specs::Code::opens_at))]
-pub fn sweep_at(marks: Marks, p: usize) -> bool
-    ensures { result ≡ opens_at is_sweep marks.at p }
+pub fn sweep_at(marks: &Marks, p: usize) -> bool
+    ensures { result ≡ opens_at is_sweep marks.now.at p }
 {
     matches!(mark_at(marks, p).role, Role::Open(Sort::Sweep))
 }
 
 // Whether a loop opens at an item, measuring or not.
 #[tactic(auto, unfolding(crate::specs::Code::opens_at))]
-pub fn loop_at(marks: Marks, p: usize) -> bool
-    ensures { result ≡ opens_at is_loop marks.at p }
+pub fn loop_at(marks: &Marks, p: usize) -> bool
+    ensures { result ≡ opens_at is_loop marks.now.at p }
 {
     matches!(mark_at(marks, p).role, Role::Open(Sort::Loop | Sort::Sweep))
 }
 
 // Whether a box opens at an item.
 #[tactic(auto, unfolding(crate::specs::Code::opens_at))]
-pub fn open_at(marks: Marks, p: usize) -> bool
-    ensures { result ≡ opens_at always marks.at p }
+pub fn open_at(marks: &Marks, p: usize) -> bool
+    ensures { result ≡ opens_at always marks.now.at p }
 {
     matches!(mark_at(marks, p).role, Role::Open(_))
 }
@@ -49,8 +49,8 @@ fn belongs_with(mark: Mark, p: usize) -> bool
 
 // The mark at j belongs to the box that opens at p.
 #[tactic(auto, unfolding(crate::specs::Code::belongs_in))]
-pub fn belongs_to(marks: Marks, j: usize, p: usize) -> bool
-    ensures { result ≡ belongs_in marks.at j p }
+pub fn belongs_to(marks: &Marks, j: usize, p: usize) -> bool
+    ensures { result ≡ belongs_in marks.now.at j p }
 {
     belongs_with(mark_at(marks, j), p)
 }
@@ -63,8 +63,8 @@ fn closes_with(mark: Mark, p: usize) -> bool
 
 // Past the closing mark of the box that opens at p.
 #[tactic(auto, using(crate::proofs::Placed::closing), unfolding(crate::specs::Code::closes_in))]
-pub fn close_of(marks: Marks, p: usize) -> Option<usize>
-    ensures { result ≡ behind (close_in marks.at p) }
+pub fn close_of(marks: &Marks, p: usize) -> Option<usize>
+    ensures { result ≡ behind (close_in marks.now.at p) }
 {
     for j in p..ITEMS {
         if closes_with(marks.at[j], p) {
@@ -76,8 +76,8 @@ pub fn close_of(marks: Marks, p: usize) -> Option<usize>
 
 // The place of the first tag among the first n marks, or n; past the marks every place has a tag's.
 #[tactic(auto, using(crate::proofs::Placed::tagging))]
-pub fn first_tag(marks: Marks, n: usize) -> usize
-    ensures { result ≡ tag_in marks.at n }
+pub fn first_tag(marks: &Marks, n: usize) -> usize
+    ensures { result ≡ tag_in marks.now.at n }
 {
     let end = n.min(ITEMS);
     for j in 0..end {

@@ -1,13 +1,13 @@
--- A law of `nan`: its eight bytes, compared as one. Assumes nothing.
+-- Laws of `nan`: its eight bytes, compared as one, and what stands still to be seen of them. Assumes nothing.
 use borrow.Author.Tests.{eq-eqb, eqb-false, eqb-true, ne_eqb}
 use lib.Dec.{eqb}
-use lib.ListN.{drop, length, length-drop, take}
+use lib.ListN.{drop, get_or, length, length-drop, take}
 use lib.Seq.{take_all}
 use mathlib.Core.Bool.{Bool, ◌&&◌, false, true}
 use mathlib.Core.List.{List, [], ◌∷◌}
-use mathlib.Core.Path.{◌≡◌, refl, sym}
+use mathlib.Core.Path.{◌≡◌, refl, sym, ◌∙◌}
 use native.Mathlib.Omega.{arith}
-use Prim.Native.Nat.{ℕ, ◌-◌, ◌≤◌}
+use Prim.Native.Nat.{ℕ, ◌+◌, ◌-◌, ◌≤◌}
 use Rattle.std.specs.List.{starts_with}
 use Rattle.package.specs.Package.{is_nan}
 use Rattle.text.specs.Bytes.{ascii}
@@ -52,3 +52,31 @@ nan_behind (_ ∷ _ ∷ _ ∷ _ ∷ _ ∷ _ ∷ _ ∷ _ ∷ _ ∷ []) l = absurd
 pub nan_is : (s : List ℕ) → 10 ≤ length s
     → starts_with eqb (take (length s - 2) (drop 2 s)) (ascii "     nan") ≡ is_nan s
 nan_is s l = rw (take_all (length s - 2) (drop 2 s) (omega (arith, length-drop 2 s))) (nan_behind s l)
+
+-- ---- byte by byte
+
+-- these bytes stand in s from a place on
+unfoldable pub stands : List ℕ → List ℕ → ℕ → Bool
+stands [] s i = true
+stands (x ∷ []) s i = eqb (get_or s i 0) x
+stands (x ∷ y ∷ xs) s i = eqb (get_or s i 0) x && stands (y ∷ xs) s (i + 1)
+
+-- the bytes before a place are those of `nan`, and xs are the rest
+pub record Left (s xs : List ℕ) (i : ℕ) : Type 0 where
+  pub same : stands xs s i ≡ is_nan s
+
+pub all_left : (s : List ℕ) → Left s (ascii "     nan") 2
+unfolding is_nan stands
+all_left s = record { same = refl }
+
+pub one_less : {s xs : List ℕ} {x y i : ℕ} → Left s (x ∷ y ∷ xs) i → get_or s i 0 ≡ x → Left s (y ∷ xs) (i + 1)
+unfolding stands
+one_less l e = record { same = sym (simp (eq-eqb _ _ e)) ∙ l.same }
+
+pub differs : {s xs : List ℕ} {x y i : ℕ} → Left s (x ∷ y ∷ xs) i → (get_or s i 0 ≡ x → ⊥) → false ≡ is_nan s
+unfolding stands
+differs l n = sym (simp (ne_eqb _ _ n)) ∙ l.same
+
+pub last_one : {s : List ℕ} {x i : ℕ} → Left s (x ∷ []) i → eqb (get_or s i 0) x ≡ is_nan s
+unfolding stands
+last_one l = l.same

@@ -15,14 +15,13 @@ use Rattle.text.proofs.Put.{length-put, put_more}
 use Rattle.reply_line.specs.declared.RowKind.{RowKind}
 use Rattle.reply_line.specs.Line.{letter_of}
 use Rattle.reply.specs.declared.Row.{Row}
-use Rattle.reply.specs.Code.{cut_row, put_row, Passed, fours, left_by, whole}
+use Rattle.reply.specs.Code.{cut_row, put_row, Passed, fours, left_by}
 use Rattle.reply.specs.Numbers.{ReadNumbers, four_of, listed, room_in, numbers_after, numbers_of, kind_of}
 use Rattle.reply.specs.Numbers.{row_at, row_in}
-use Rattle.reply_line.specs.declared.Refusal.{Refusal}
-use Rattle.reply.specs.Reply.{Answer, answered, refused_at, verdict}
+use Rattle.reply.specs.Reply.{Answer, verdict}
 use Rattle.reply.specs.Rows.{script_row, rows_of}
 use Rattle.reply.proofs.Pass.{Small, Shows}
-use Rattle.reply.proofs.Whole.{says_verdict, whole_is}
+use Rattle.reply.proofs.Whole.{after, says_verdict, whole_is}
 
 -- ---- rows in front of lent numbers
 
@@ -191,23 +190,19 @@ none_listed : (lent : List ℕ) → shown lent [] ≡ lent
 unfolding listed put
 none_listed lent = refl
 
-pub numbers_are : (s lent : List ℕ) {c u r : ℕ} → verdict (room_in lent) s ≡ answered c u r
-    → whole fours s (room_in lent) u lent ≡ numbers_of s lent
+pub numbers_are : (s lent : List ℕ) → left_by fours s (room_in lent) (verdict (room_in lent) s) lent ≡ numbers_of s lent
 unfolding numbers_of numbers_after listed put
-numbers_are s lent e =
-    whole_is (shows_fours lent) s e ∙ sym (ap (λ (v : Answer). numbers_after v (rows_of (room_in lent) s) lent) e)
+numbers_are s lent = whole_is (shows_fours lent) s ∙ by_answer (verdict (room_in lent) s)
+  where
+    by_answer : (v : Answer)
+        → after v (shown lent (rows_of (room_in lent) s)) lent ≡ numbers_after v (rows_of (room_in lent) s) lent
+    by_answer (Ok read) = refl
+    by_answer (Err refused) = refl
 
-pub numbers_kept : (s lent : List ℕ) {w : Refusal} {k : ℕ} → verdict (room_in lent) s ≡ refused_at w k
-    → lent ≡ numbers_of s lent
-unfolding numbers_of numbers_after
-numbers_kept s lent e = sym (ap (λ (v : Answer). numbers_after v (rows_of (room_in lent) s) lent) e)
-
--- by the verdict
 pub read_listed : (s lent : List ℕ) {r : Answer} {out : List ℕ} → Passed fours (room_in lent) s lent r out
     → ReadNumbers s lent r out
-read_listed s lent {r} {out} p = by_verdict r p.says p.left
-  where
-    by_verdict : (v : Answer) → v ≡ verdict (room_in lent) s → out ≡ left_by fours s (room_in lent) v lent
-        → ReadNumbers s lent v out
-    by_verdict (Ok read) e left = record { says = says_verdict _ s e; numbers = left ∙ numbers_are s lent (sym e) }
-    by_verdict (Err refused) e left = record { says = says_verdict _ s e; numbers = left ∙ numbers_kept s lent (sym e) }
+read_listed s lent p =
+    record {
+      says = says_verdict _ s p.says;
+      numbers = p.left ∙ ap (λ (v : Answer). left_by fours s (room_in lent) v lent) p.says ∙ numbers_are s lent;
+    }

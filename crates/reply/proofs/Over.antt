@@ -1,18 +1,17 @@
 -- Rows in front of a lent table: the second pass over it writes the definition's, and leaves the rest. Assumes nothing.
 use Rattle.std.proofs.Common.{Ok, Err}
 use mathlib.Core.List.{List, [], ◌∷◌, ◌++◌, append_assoc}
-use mathlib.Core.Path.{◌≡◌, sym, ◌∙◌, ap}
+use mathlib.Core.Path.{◌≡◌, refl, sym, ◌∙◌, ap}
 use native.Mathlib.Omega.{arith}
 use Prim.Native.Nat.{ℕ, suc, ◌<◌}
 use lib.ListN.{length, drop, get_or, set, length-set, length-append, get_or-append}
 use lib.Seq.{drop-cons, set-append_seam, set-append_left}
 use Rattle.reply.specs.declared.Row.{Row}
-use Rattle.reply.specs.Code.{Passed, left_by, table, whole}
-use Rattle.reply_line.specs.declared.Refusal.{Refusal}
-use Rattle.reply.specs.Reply.{Answer, answered, refused_at, verdict}
+use Rattle.reply.specs.Code.{Passed, left_by, table}
+use Rattle.reply.specs.Reply.{Answer, verdict}
 use Rattle.reply.specs.Rows.{ReadRows, script_row, rows_of, over, lent_after, table_of}
 use Rattle.reply.proofs.Pass.{Shows}
-use Rattle.reply.proofs.Whole.{says_verdict, whole_is}
+use Rattle.reply.proofs.Whole.{after, says_verdict, whole_is}
 
 module _ (ys rows : List Row) where
   over_get : (i : ℕ) → i < length rows → get_or (over rows ys) i script_row ≡ get_or rows i script_row
@@ -42,22 +41,20 @@ shows_table ys =
       behind = λ rows r h small. over_more ys rows r h;
     }
 
-pub table_is : (s : List ℕ) (ys : List Row) {c u r : ℕ} → verdict (length ys) s ≡ answered c u r
-    → whole table s (length ys) u ys ≡ table_of s ys
+pub table_is : (s : List ℕ) (ys : List Row)
+    → left_by table s (length ys) (verdict (length ys) s) ys ≡ table_of s ys
 unfolding table_of lent_after over
-table_is s ys e =
-    whole_is (shows_table ys) s e ∙ sym (ap (λ (v : Answer). lent_after v (rows_of (length ys) s) ys) e)
+table_is s ys = whole_is (shows_table ys) s ∙ by_answer (verdict (length ys) s)
+  where
+    by_answer : (v : Answer)
+        → after v (over (rows_of (length ys) s) ys) ys ≡ lent_after v (rows_of (length ys) s) ys
+    by_answer (Ok read) = refl
+    by_answer (Err refused) = refl
 
-pub table_kept : (s : List ℕ) (ys : List Row) {w : Refusal} {k : ℕ} → verdict (length ys) s ≡ refused_at w k
-    → ys ≡ table_of s ys
-unfolding table_of lent_after
-table_kept s ys e = sym (ap (λ (v : Answer). lent_after v (rows_of (length ys) s) ys) e)
-
--- by the verdict
 pub read_rows : (s : List ℕ) (ys : List Row) {r : Answer} {out : List Row} → Passed table (length ys) s ys r out
     → ReadRows s ys r out
-read_rows s ys {r} {out} p = by_verdict r p.says p.left
-  where
-    by_verdict : (v : Answer) → v ≡ verdict (length ys) s → out ≡ left_by table s (length ys) v ys → ReadRows s ys v out
-    by_verdict (Ok read) e left = record { says = says_verdict _ s e; rows = left ∙ table_is s ys (sym e) }
-    by_verdict (Err refused) e left = record { says = says_verdict _ s e; rows = left ∙ table_kept s ys (sym e) }
+read_rows s ys p =
+    record {
+      says = says_verdict _ s p.says;
+      rows = p.left ∙ ap (λ (v : Answer). left_by table s (length ys) v ys) p.says ∙ table_is s ys;
+    }

@@ -1,6 +1,6 @@
 -- What the second pass leaves: a reply that is read, the definition's rows; one that is refused, all as it was. Assumes
 -- nothing.
-use Rattle.std.proofs.Common.{Option, Some, None}
+use Rattle.std.proofs.Common.{Option, Some, None, Ok, Err}
 use mathlib.Core.Bool.{Bool, true, false, cond}
 use mathlib.Core.List.{List, [], ◌∷◌}
 use mathlib.Core.Path.{◌≡◌, refl, sym, ◌∙◌, ap}
@@ -18,7 +18,7 @@ use Rattle.reply_step.specs.Step.{begun, step}
 use Rattle.reply.specs.declared.Row.{Row}
 use Rattle.reply.specs.declared.Stand.{Stand}
 use Rattle.reply.specs.Code.{seen_at, place_by, one_more, change_by, begun_at, place_in}
-use Rattle.reply.specs.Code.{turned, Memory, pass_from, whole}
+use Rattle.reply.specs.Code.{turned, Memory, pass_from, left_by, whole}
 use Rattle.reply.specs.Reply.{Answer, answered, meaning, outcome_of, refused_at, verdict_from, verdict}
 use Rattle.reply.specs.Rows.{script_row, rows_after, holder_after, rows_of, rows_from}
 use Rattle.reply.proofs.Course.{Place, past, says_from, makes_from, not_read, Met, rows_on, rows_ended}
@@ -180,10 +180,23 @@ module _ {X : Type 0} {m : Memory X} {n : ℕ} {show : List Row → X} (w : Show
 
 -- ---- the whole
 
-pub whole_is : {X : Type 0} {m : Memory X} {n : ℕ} {show : List Row → X} → Shows m n show → (s : List ℕ) {c u r : ℕ}
+read_is : {X : Type 0} {m : Memory X} {n : ℕ} {show : List Row → X} → Shows m n show → (s : List ℕ) {c u r : ℕ}
     → verdict n s ≡ answered c u r → whole m s n u (show []) ≡ show (rows_of n s)
 unfolding rows_of
-whole_is w s e = read_whole w (judged e)
+read_is w s e = read_whole w (judged e)
+
+-- what a memory is afterwards: read, the rows in front; refused, as it was
+abbrev pub after : {X : Type 0} → Answer → X → X → X
+after (Ok read) written lent = written
+after (Err refused) written lent = lent
+
+pub whole_is : {X : Type 0} {m : Memory X} {n : ℕ} {show : List Row → X} → Shows m n show → (s : List ℕ)
+    → left_by m s n (verdict n s) (show []) ≡ after (verdict n s) (show (rows_of n s)) (show [])
+whole_is {X} {m} {n} {show} w s = by_answer (verdict n s) refl
+  where
+    by_answer : (v : Answer) → verdict n s ≡ v → left_by m s n v (show []) ≡ after v (show (rows_of n s)) (show [])
+    by_answer (Ok read) e = read_is w s e
+    by_answer (Err refused) e = refl
 
 -- ---- where a pass starts
 

@@ -43,10 +43,18 @@ fn list(out: &impl Print, reply: &[u8]) -> io::Result<()> {
     put_table(out, &reply::read_table(reply))
 }
 
+fn say(err: &impl Eprint, text: &str) {
+    let _ = err.eprintln(text);
+}
+
 fn main(rt: HostRuntime) {
     let mut bytes = buffer();
     match stream::read_whole(&mut rt.stdin(), &mut bytes) {
-        Ok(n) => stream::say_written(&rt, "rows", list(&rt, &bytes[..n])),
-        Err(_) => stream::say_unread(&rt, "rows"),
+        Ok(n) => {
+            if stream::speaks_of(list(&rt, &bytes[..n])) {
+                say(&rt, "rows: standard output could not be written");
+            }
+        }
+        Err(_) => say(&rt, "rows: standard input could not be read"),
     }
 }

@@ -2,7 +2,7 @@
 use Rattle.std.proofs.Common.{Option, Some, None, is_some}
 use Prim.Native.Nat.{ℕ, zero, suc}
 use mathlib.Core.Path.{◌≡◌, refl, sym, ap, ◌∙◌}
-use mathlib.Core.Bool.{Bool, true, false}
+use mathlib.Core.Bool.{Bool, true, false, ◌||◌}
 use mathlib.Core.List.{[], ◌∷◌}
 use native.Mathlib.Omega.{arith}
 use lib.ListN.{length, set, replicate}
@@ -42,6 +42,14 @@ module _ (k : Sorted) (n : ℕ) where
   pub no_kind_there : has (names_of k.whole) n ≡ false → has (names_of k.real) n ≡ false
       → None ≡ kind_at (kinds_in k) n
   no_kind_there e f = rw (kind_at_lem, e, f)
+
+  pub known_there : (has (names_of k.whole) n || has (names_of k.real) n) ≡ is_some (kind_at (kinds_in k) n)
+  known_there = rw kind_at_lem (by (has (names_of k.whole) n) (has (names_of k.real) n))
+    where
+      by : (w r : Bool) → (w || r) ≡ is_some (kind_by w r)
+      by true r = refl
+      by false true = refl
+      by false false = refl
 
 -- what the search for a name's kind cites, for its attribute
 pub ruleset there = (whole_there, real_there, no_kind_there)

@@ -1,6 +1,6 @@
 -- The checker on its way. Assumes nothing.
 use Rattle.std.proofs.Common.{Option, Some, None, Result, Ok, Err}
-use Prim.Native.Nat.{ℕ, suc, ◌+◌, ◌≤◌, ◌<◌}
+use Prim.Native.Nat.{ℕ, zero, suc, ◌+◌, ◌≤◌, ◌<◌}
 use mathlib.Core.Path.{◌≡◌, refl, sym, ◌∙◌, ap, ap₂, subst}
 use mathlib.Core.Bool.{Bool, true, false}
 use mathlib.Core.List.{List, []}
@@ -39,6 +39,10 @@ stands Refusal.Tag i v = refl
 stands Refusal.SameName i v = refl
 stands Refusal.Nested i v = refl
 stands Refusal.Shape i v = refl
+
+or_go-same : (n i : ℕ) (u v : Verdict) → (n ≡ 0 → ⊥) → or_go n i u ≡ or_go n i v
+or_go-same zero i u v h = absurd (h refl)
+or_go-same (suc n) i u v h = refl
 
 -- at the end of the items
 rest_end : (k : Kinds) (xs : List Item) (i : ℕ) → drop i xs ≡ [] → (s : Held)
@@ -89,6 +93,8 @@ module _ {t : List Brief} {i : ℕ} {a : Around} {h : coded.Held} {f : Option Re
         ∙ ap (λ (g : Option Refusal). or_go (found g) i
         (rest_of k xs (i + 1) (after (state told bs b) (now' told bs b).item))) e
         ∙ stands q i _);
+    within = omega (arith, j.there);
+    ahead = omega arith;
   }
 
   -- one item further
@@ -142,6 +148,8 @@ module _ {t : List Brief} {i : ℕ} {a : Around} {h : coded.Held} {f : Option Re
     opened_refused w = record {
       same = λ k xs told bs b. w.same k xs told (boxes_in a.depth (box_of a (holds_of h)) bs)
           (deeper_boxed a h bs form r d b) ∙ enters told bs b;
+      within = w.within;
+      ahead = omega (arith, w.ahead);
     }
 
 -- ---- the block checker's
@@ -163,7 +171,11 @@ module _ {t : List Brief} {a : Around} {i j : ℕ} {h g : coded.Held} (s : Same 
   }
 
   pub out_refused : {q : Refusal} {l : ℕ} → Refuses t j a g q l → Refuses t i a h q l
-  out_refused w = record { same = λ k xs told bs b. w.same k xs told bs b ∙ s.still k xs told bs b }
+  out_refused w = record {
+    same = λ k xs told bs b. w.same k xs told bs b ∙ s.still k xs told bs b;
+    within = w.within;
+    ahead = omega (arith, w.ahead, s.onward);
+  }
 
   pub out_closed : {r : Walk} → Passes t j a g r → r.closed ≡ true → Leaves t i a h (left_by r)
   out_closed {r} w c = record {
@@ -186,6 +198,8 @@ module _ {t : List Brief} {a : Around} {i j : ℕ} {h g : coded.Held} (s : Same 
     end_refused {q} z = record {
       same = λ k xs told bs b. sym (at_end k xs told bs ∙ ap (λ (o : Option Refusal). or_go (found o) j accepted) z
           ∙ stands q j accepted) ∙ s.still k xs told bs b;
+      within = s.within;
+      ahead = s.onward;
     }
 
     pub end_reached : f ≡ None

@@ -1,9 +1,9 @@
-// A program's input, read to its end: a read that fails is told apart from the end of the input. And what the program
-// says where its input or its output fails.
+// A program's input, read to its end: a read that fails is told apart from the end of the input. And which failures of
+// its output are spoken of.
 #![tactic(auto)]
 
 ghost use Rattle.std.specs.Prelude.{◌≡◌};
-ghost use Rattle.stream.specs.Stream.{Reads, heard};
+ghost use Rattle.stream.specs.Stream.{Reads, heard, speaks_of};
 
 use std::io;
 use std::io::Read;
@@ -35,15 +35,14 @@ pub fn read_whole<R: Read>(reader: &mut R, buf: &mut [u8]) -> io::Result<usize>
     Ok(size)
 }
 
-pub fn say_unread(err: &impl Eprint, program: &str) {
-    let _ = eprintln!(err; "{program}: standard input could not be read");
-}
-
-// Whether what a program wrote was written; a pipe that nobody reads any further is no failure to speak of.
-pub fn say_written(err: &impl Eprint, program: &str, written: io::Result<()>) {
-    if let Err(error) = written {
-        if error.kind() != io::ErrorKind::BrokenPipe {
-            let _ = eprintln!(err; "{program}: standard output could not be written");
-        }
+// Whether it is to be said that a program's output was not written; that nobody reads a pipe any further is no failure
+// to speak of.
+#[tactic(auto, unfolding(crate::specs::Stream::is_broken_pipe, crate::specs::Stream::speaks_of))]
+pub fn speaks_of(written: io::Result<()>) -> bool
+    ensures { result ≡ speaks_of written }
+{
+    match written {
+        Ok(()) => false,
+        Err(error) => !matches!(error.kind(), io::ErrorKind::BrokenPipe),
     }
 }

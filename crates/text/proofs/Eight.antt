@@ -8,9 +8,9 @@ use lib.Arith.{digits_div, digits_mod}
 use lib.Dec.{eqb}
 use lib.ListN.{drop, get_or, length, length-drop, length-take, replicate, take}
 use mathlib.Core.Bool.{Bool, ◌&&◌, and_comm, and-eq-true_iff, cond, false, true}
-use mathlib.Core.List.{List, ◌∷◌, ◌++◌, append-nil}
+use mathlib.Core.List.{List, [], ◌∷◌, ◌++◌, append-nil}
 use mathlib.Core.Path.{◌≡◌, ◌∙◌, ap, refl, sym}
-use native.Mathlib.Nat.{add-mul, div-div-eq-div-mul, mul_assoc, mul_comm, pow-suc, zero-add}
+use native.Mathlib.Nat.{add-mul, div-div-eq-div-mul, mul_assoc, mul_comm, pow-suc, suc-add, zero-add}
 use native.Mathlib.Omega.{arith}
 use Prim.Native.Nat.{ℕ, zero, suc, ◌+◌, ◌-◌, ◌*◌, ◌/◌, ◌%◌, ◌^◌, ◌≤◌, ◌<◌}
 use Rattle.text.proofs.Abreast.{Made, added, alike, fits, pairs, repeated}
@@ -155,6 +155,36 @@ module _ {w v x y : ℕ} (d : Weighed w v x y) where
   pub short : x * 65536 + y < 2 ^ 32
   unfolding apart
   short = below_from (apart 8 w) 0 0 _ (omega arith) (sym reads)
+
+-- ---- a word's bytes, and those of two words
+
+pub four_apart : (a b c d : ℕ) → a < 256 → b < 256 → c < 256 → d < 256
+    → apart 4 (a + b * 256 + c * 65536 + d * 16777216) ≡ a ∷ b ∷ c ∷ d ∷ []
+unfolding apart
+four_apart a b c d h i j k =
+    let once : (a + b * 256 + c * 65536 + d * 16777216) / 256 ≡ b + c * 256 + d * 65536 = omega arith in
+    let twice : (b + c * 256 + d * 65536) / 256 ≡ c + d * 256 = omega arith in
+    let thrice : (c + d * 256) / 256 ≡ d = omega arith in
+    let first : (a + b * 256 + c * 65536 + d * 16777216) % 256 ≡ a = omega arith in
+    let second : (b + c * 256 + d * 65536) % 256 ≡ b = omega arith in
+    let third : (c + d * 256) % 256 ≡ c = omega arith in
+    let fourth : d % 256 ≡ d = omega arith in
+    rw (once, twice, thrice, first, second, third, fourth) refl
+
+apart_behind : (j k n m : ℕ) → n < 256 ^ j → apart (j + k) (n + m * 256 ^ j) ≡ apart j n ++ apart k m
+unfolding apart
+apart_behind zero k n m h =
+    let none : n + m * 1 ≡ m = omega arith in
+    rw (zero-add k, none) refl
+apart_behind (suc j) k n m h =
+    let up : m * 256 ^ suc j ≡ m * 256 ^ j * 256 = rw (pow-suc 256 j) (sym (mul_assoc m (256 ^ j) 256)) in
+    let low : n / 256 < 256 ^ j = omega (arith, pow-suc 256 j) in
+    let rest : (n + m * 256 ^ suc j) / 256 ≡ n / 256 + m * 256 ^ j = omega (arith, up) in
+    let last : (n + m * 256 ^ suc j) % 256 ≡ n % 256 = omega (arith, up) in
+    rw (suc-add j k, rest, last) (ap (λ (cs : List ℕ). n % 256 ∷ cs) (apart_behind j k (n / 256) m low))
+
+pub eight_apart : (n m : ℕ) → n < 2 ^ 32 → apart 8 (n + m * 2 ^ 32) ≡ apart 4 n ++ apart 4 m
+eight_apart n m h = apart_behind 4 4 n m h
 
 -- ---- as the library reads them
 

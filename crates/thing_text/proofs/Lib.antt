@@ -1,4 +1,5 @@
 pub mod Bytes
 pub mod Numbers
 pub mod ReadBack
+pub mod Signs
 pub mod Tight

@@ -20,10 +20,18 @@ fn buffer() -> [u8; 8193]
     [0; 8193]
 }
 
+fn say(err: &impl Eprint, text: &str) {
+    let _ = err.eprintln(text);
+}
+
 fn main(rt: HostRuntime) {
     let mut bytes = buffer();
     match stream::read_whole(&mut rt.stdin(), &mut bytes) {
-        Ok(n) => stream::say_written(&rt, "vet", judge(&rt, &bytes[..n])),
-        Err(_) => stream::say_unread(&rt, "vet"),
+        Ok(n) => {
+            if stream::speaks_of(judge(&rt, &bytes[..n])) {
+                say(&rt, "vet: standard output could not be written");
+            }
+        }
+        Err(_) => say(&rt, "vet: standard input could not be read"),
     }
 }

@@ -1,5 +1,5 @@
 // The frame reader and writer.
-use case_text::put::{Hex, put_refusal};
+use case_text::put::{put_hex, put_refusal};
 use case_text::read::{bytes_of, hex2_of, number_of};
 use frame::{HostNumber, InstrumentNumber, content, read_frame, write_frame};
 use std::io;
@@ -19,7 +19,7 @@ pub fn frame_read<W: Write>(case: &[u8], out: &mut W) -> io::Result<()> {
         InstrumentNumber::from_byte(hex2_of(case, b"expected=")),
     ) {
         Ok((length, next)) => {
-            writeln!(out, "result=0\ncontent={}", Hex(content(line, length)))?;
+            put_hex(out, b"result=0\ncontent=", content(line, length))?;
             writeln!(out, "next={:02X}", next.byte())
         }
         Err(why) => put_refusal(out, u8::from(why), 0),
@@ -34,12 +34,12 @@ fn write_lent<W: Write>(
 ) -> io::Result<()> {
     match write_frame(content_here, host, lent) {
         Ok((length, next)) => {
-            writeln!(out, "result=0\nbytes={}", Hex(content(lent, length)))?;
+            put_hex(out, b"result=0\nbytes=", content(lent, length))?;
             writeln!(out, "host={:02X}", next.byte())?;
         }
         Err(why) => put_refusal(out, u8::from(why), 0)?,
     }
-    writeln!(out, "lent={}", Hex(lent))
+    put_hex(out, b"lent=", lent)
 }
 
 // The case's own text stands in the buffer that is lent, so that hardly a byte is like the next. Beside the answer, the

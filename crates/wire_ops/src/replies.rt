@@ -1,6 +1,9 @@
 // Replies, read into a lent part of 1,024 rows, and one row by its number.
+ghost use Rattle.std.specs.Prelude.{◌≡◌, ◌-◌, ◌≤◌};
+ghost use Rattle.reply.specs.Reply.{meaning, outcome_of};
+
 use case_text::read::{bytes_of, first, number_of};
-use reply::{Read, Row};
+use reply::{Read, Row, RowTable};
 use reply_line::{Refusal, RowKind};
 use std::io::Write;
 use std::{fmt, io};
@@ -19,6 +22,16 @@ const BEFORE: Row = Row {
 
 // The refusal of a row that is not there.
 const NO_ROW: u8 = 56;
+
+// Of 1,024 rows those from one place to another are lent.
+fn lend_part(reply: &[u8], from: usize, to: usize) -> RowTable
+    requires { (from ≤ to) × (to ≤ 1024) }
+    ensures { meaning result.answer ≡ outcome_of (to - from) reply.now }
+{
+    let mut rows = [BEFORE; ROWS];
+    let answer = reply::read_reply(reply, &mut rows[from..to]);
+    RowTable { rows, answer }
+}
 
 fn is_before(row: &Row) -> bool {
     row.kind == BEFORE.kind
@@ -82,9 +95,9 @@ fn put_listing<W: Write>(
 fn put_lent<W: Write>(reply: &[u8], lent: usize, out: &mut W) -> io::Result<()> {
     let count = lent.min(ROWS);
     let from = (reply.len() % ROWS).min(ROWS - count);
-    let mut rows = [BEFORE; ROWS];
-    let answer = reply::read_reply(reply, &mut rows[from..from + count]);
-    put_listing(out, answer, &rows[from..])?;
+    let table = lend_part(reply, from, from + count);
+    let rows = &table.rows;
+    put_listing(out, table.answer, &rows[from..])?;
     writeln!(out, "kept={} {}", kept(&rows[..from]), kept(&rows[from..]))
 }
 

@@ -29,7 +29,7 @@ pub returns-in-Some : goal.returns-in-Some
 returns-in-Some c =
     rw (
       c.in-Some.ensures.1,
-      broken c.args.marks.at c.args.sweeping c.args.s.boxes c.in-Some.k,
+      broken c.args.marks.now.at c.args.sweeping c.args.s.boxes c.in-Some.k,
       c.around_none.ensures,
       c.unwrap_or.ensures,
       c.close_of.ensures,
