@@ -20,7 +20,7 @@ use Rattle.rules.specs.Code.{Form, Around, Holds, holds_of, box_of, boxes_in, st
 use Rattle.rules.specs.Code.{Brief, brief_at, NotedAt, Told, is_open, is_close, rows_in, rows_at_end, moved, Deeper}
 use Rattle.rules.specs.Code.{entered}
 use Rattle.rules.specs.Code.{Outside, Starts, Walk, Out, rest_of, Refused, outcome, out_state}
-use Rattle.rules.specs.Code.{back_by, left_by, Refuses, Leaves, Passes, Went, plain_form, wrong_both, mark_in}
+use Rattle.rules.specs.Code.{back_by, left_by, Says, Refuses, Leaves, Passes, Went, plain_form, wrong_both, mark_in}
 use Rattle.rules.specs.declared.written.Held as coded
 use Rattle.rules.proofs.Forms.{no, plain_form_lem}
 use Rattle.rules.proofs.Rows.{judged_in, end_in_lem, no_mark_lem, right_form, no_box_left}
@@ -143,11 +143,14 @@ module _ {t : List Brief} {i : ℕ} {a : Around} {h : coded.Held} {f : Option Re
       inside = λ z. no (sym z);
     }
 
-    -- refused in it
+    -- refused in it, at whatever place
+    pub opened_says : (p : Refusal) {l : ℕ} → Says t (i + 1) r q p l → Says t i a h p l
+    opened_says p w k xs told bs b =
+        w k xs told (boxes_in a.depth (box_of a (holds_of h)) bs) (deeper_boxed a h bs form r d b) ∙ enters told bs b
+
     pub opened_refused : {p : Refusal} {l : ℕ} → Refuses t (i + 1) r q p l → Refuses t i a h p l
-    opened_refused w = record {
-      same = λ k xs told bs b. w.same k xs told (boxes_in a.depth (box_of a (holds_of h)) bs)
-          (deeper_boxed a h bs form r d b) ∙ enters told bs b;
+    opened_refused {p} w = record {
+      same = opened_says p w.same;
       within = w.within;
       ahead = omega (arith, w.ahead);
     }
@@ -170,9 +173,12 @@ module _ {t : List Brief} {a : Around} {i j : ℕ} {h g : coded.Held} (s : Same 
     within = w.within;
   }
 
+  pub out_says : (q : Refusal) {l : ℕ} → Says t j a g q l → Says t i a h q l
+  out_says q w k xs told bs b = w k xs told bs b ∙ s.still k xs told bs b
+
   pub out_refused : {q : Refusal} {l : ℕ} → Refuses t j a g q l → Refuses t i a h q l
-  out_refused w = record {
-    same = λ k xs told bs b. w.same k xs told bs b ∙ s.still k xs told bs b;
+  out_refused {q} w = record {
+    same = out_says q w.same;
     within = w.within;
     ahead = omega (arith, w.ahead, s.onward);
   }
@@ -224,14 +230,19 @@ module _ {t : List Brief} {a : Around} {i j : ℕ} {h g : coded.Held} (s : Same 
 
 -- ---- the whole row
 
+pub came_says : (t : List Brief) {k : Kinds} {xs : List Item} (a : Around) (h : coded.Held) (q : Refusal) {j : ℕ}
+    → Told k xs t → Outside a → Starts h → Says t 0 a h q j → refused (number_of q) j ≡ walk k 0 begin xs
+unfolding rest_of
+came_says t {k} {xs} a h q told o s w =
+    w k xs told [] (no_boxes a o) ∙ ap (λ (z : Held). walk k 0 z xs) (begins a h o s)
+
 pub came : (t : List Brief) {k : Kinds} {xs : List Item} (a : Around) (h : coded.Held) (r : Result Out Refused)
     → Told k xs t → Outside a → Starts h → Went t 0 a h r → outcome r ≡ walk k 0 begin xs
 unfolding rest_of
 came t {k} {xs} a h (Ok r) told o s w =
     sym (w.done k xs told [] (no_boxes a o) o.depth) ∙ w.same k xs told [] (no_boxes a o)
     ∙ ap (λ (z : Held). walk k 0 z xs) (begins a h o s)
-came t {k} {xs} a h (Err e) told o s w =
-    w.same k xs told [] (no_boxes a o) ∙ ap (λ (z : Held). walk k 0 z xs) (begins a h o s)
+came t a h (Err e) told o s w = came_says t a h e.0 told o s w.same
 
 -- ---- the verdict
 

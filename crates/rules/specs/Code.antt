@@ -404,6 +404,12 @@ pub record Refuses (t : List Brief) (i : ℕ) (a : Around) (h : coded.Held) (q :
   pub within : j ≤ length t
   pub ahead : i ≤ j
 
+-- so it is, at whatever place
+abbrev pub Says : List Brief → ℕ → Around → coded.Held → Refusal → ℕ → Type 0
+Says t i a h q j =
+    (k : Kinds) (xs : List Item) → Told k xs t → (bs : List Box) → Boxed a bs
+    → refused (number_of q) j ≡ rest_of k xs i (state_of a (holds_of h) bs)
+
 -- the block checker has come out of the row: the verdict is the same from there
 pub record Leaves (t : List Brief) (i : ℕ) (a : Around) (h : coded.Held) (r : Out) : Type 0 where
   pub same : (k : Kinds) (xs : List Item) → Told k xs t → (bs : List Box) → Boxed a bs
