@@ -220,17 +220,17 @@ pub record Begun (n : ℕ) (hs₀ : List What) (h₀ : ℕ) (e : Effect) (hs : L
   pub counted : h ≡ (h₀ + count_of e.one) + count_of e.two
 
 -- where there is room, the count is that of the thing
+in_room : (hs : List What) (h : ℕ) (v : What) → h < length hs
+    → h + cond (ltb h (length hs)) (count_of v) 0 ≡ h + count_of v
+in_room hs h v q = ap (λ (b : Bool). h + cond b (count_of v) 0) (lt-ltb h (length hs) q)
+
 pub counted_in : {hs : List What} {h : ℕ} {v : What} {hs' : List What} {h' : ℕ} → h < length hs → Lays hs h v hs' h'
     → h' ≡ h + count_of v
-counted_in {hs} {h} {v} q l =
-    l.counted ∙ ap (λ (b : Bool). h + cond b (count_of v) 0) (lt-ltb h (length hs) q)
+counted_in {hs} {h} {v} q l = l.counted ∙ in_room hs h v q
 
 pub lays_in : {hs : List What} {h : ℕ} {v : What} {hs' : List What} {h' : ℕ} → h < length hs → hs' ≡ set hs h v
     → h' ≡ h + count_of v → Lays hs h v hs' h'
-lays_in {hs} {h} {v} q l c = record {
-  laid = l;
-  counted = c ∙ sym (ap (λ (b : Bool). h + cond b (count_of v) 0) (lt-ltb h (length hs) q));
-}
+lays_in {hs} {h} {v} q l c = record { laid = l; counted = c ∙ sym (in_room hs h v q) }
 
 lay_by : {n : ℕ} {hs : List What} {h : ℕ} {os : List Out} {v : What} {hs' : List What} {h' : ℕ} → Laid n hs h os
     → h < n → Lays hs h v hs' h'

@@ -396,19 +396,18 @@ left_by r = record {
   tagged = r.held.tagged;
 }
 
--- from item i of a row there is a refusal at item j: of whatever items these are the briefs, and whatever is around,
--- that is the verdict
-pub record Refuses (t : List Brief) (i : ℕ) (a : Around) (h : coded.Held) (q : Refusal) (j : ℕ) : Type 0 where
-  pub same : (k : Kinds) (xs : List Item) → Told k xs t → (bs : List Box) → Boxed a bs
-      → refused (number_of q) j ≡ rest_of k xs i (state_of a (holds_of h) bs)
-  pub within : j ≤ length t
-  pub ahead : i ≤ j
-
--- so it is, at whatever place
+-- from item i of a row the verdict is a refusal at item j, of whatever items these are the briefs, and whatever is
+-- around
 abbrev pub Says : List Brief → ℕ → Around → coded.Held → Refusal → ℕ → Type 0
 Says t i a h q j =
     (k : Kinds) (xs : List Item) → Told k xs t → (bs : List Box) → Boxed a bs
     → refused (number_of q) j ≡ rest_of k xs i (state_of a (holds_of h) bs)
+
+-- so it is, and j is an item of the row from i on, or its end
+pub record Refuses (t : List Brief) (i : ℕ) (a : Around) (h : coded.Held) (q : Refusal) (j : ℕ) : Type 0 where
+  pub same : Says t i a h q j
+  pub within : j ≤ length t
+  pub ahead : i ≤ j
 
 -- the block checker has come out of the row: the verdict is the same from there
 pub record Leaves (t : List Brief) (i : ℕ) (a : Around) (h : coded.Held) (r : Out) : Type 0 where
